@@ -84,18 +84,18 @@ fn name_between(s: &[u8], start: usize, end: usize) -> bool
     name_ok(&s[start..end])
 }
 
-// The len bytes from the place at on, which must be a name.
-fn read_named(s: &[u8], at: usize, len: usize) -> SpanRead
-    ensures { λ r. ⌜ spanShown r ≡ named (now (s .entry)) len at ⌝ }
+// The len bytes from start on, which must be a name.
+fn read_named(s: &[u8], start: usize, len: usize) -> SpanRead
+    ensures { λ r. ⌜ spanShown r ≡ named (now (s .entry)) len start ⌝ }
 {
-    if !has_room(s.len(), at, len) {
+    if !has_room(s.len(), start, len) {
         return SpanRead::Refused(Refusal::Cut);
     }
-    let next = at + len;
-    if name_between(s, at, next) {
+    let next = start + len;
+    if name_between(s, start, next) {
         SpanRead::Bytes(
             Span {
-                start: at,
+                start: start,
                 len: len,
             },
             next,

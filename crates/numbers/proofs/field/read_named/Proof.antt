@@ -15,11 +15,11 @@ has-room-requires : tie.Need-has-room-requires
 has-room-requires c κs = search needs
 
 -- past the test the bytes are there
-there : (c : tie.Else1) → let a = c .before .before .before .args in a .at + a .len ≤ length (a .s .now)
+there : (c : tie.Else1) → let a = c .before .before .before .args in a .start + a .len ≤ length (a .s .now)
 there c = space _ _ _ (c .before .has-room .ensures) (c .if1 .left)
 
 -- what the name rule said is of these bytes
-named-by : (c : tie.After-name-between) → let a = c .before .before .before .before .args in c .name-between .result ≡ nameOk (take (a .len) (drop (a .at) (a .s .now)))
+named-by : (c : tie.After-name-between) → let a = c .before .before .before .before .args in c .name-between .result ≡ nameOk (take (a .len) (drop (a .start) (a .s .now)))
 named-by c = rw add-sub-cancel-left at (c .name-between .ensures)
 
 returns : tie.Need-returns
