@@ -1,0 +1,68 @@
+-- `deal`'s answer: when it deals and when it refuses, and that its promise settles it.
+use Prim.Native.Nat.{ℕ, zero, suc, _<_, _≤_}
+use mathlib.Core.Path.{_≡_, refl, sym, ap, _∙_}
+use mathlib.Core.List.{List, [], _∷_}
+use mathlib.Core.Bool.{Bool, true, false, false≢true}
+use native.Mathlib.Nat.{le-of-suc-le-suc}
+use native.Mathlib.Omega.{arith}
+use lib.ListN.{length, getD}
+use lib.Dec.{ltb}
+use borrow.Author.Tests.{eq-eqb, ne-eqb, lt-ltb, le-ltb, ltb-true, le-leb, lt-leb}
+use Rattle.deal.specs.declared.Dealing.{Dealing}
+use Rattle.deal.specs.declared.Dealing.the-variants.{Dealt, TooLong, OtherRoom, NoGroup}
+use Rattle.deal.specs.Interleaving.{order, Grouped}
+use Rattle.deal.specs.Answer.{dealingNumber, pick, grouped, dealAnswer, dealOut}
+
+-- the test says what `Grouped` says
+pub grouped-yes : (gs : List ℕ) → Grouped gs → grouped gs ≡ true
+grouped-yes [] h = refl
+grouped-yes (g ∷ gs) h = rw (lt-ltb g 8 (h 0 (omega arith))) (grouped-yes gs (λ i l. h (suc i) (omega arith)))
+
+pub grouped-no : (gs : List ℕ) (i : ℕ) → i < length gs → 8 ≤ getD gs i 0 → grouped gs ≡ false
+grouped-no [] i l h = absurd (omega arith)
+grouped-no (g ∷ gs) zero l h = rw (le-ltb g 8 h) refl
+grouped-no (g ∷ gs) (suc i) l h = either (ltb g 8) (grouped-no gs i (le-of-suc-le-suc l) h)
+  where
+    either : (b : Bool) → grouped gs ≡ false → pick b (grouped gs) false ≡ false
+    either true e = e
+    either false e = refl
+
+pub grouped-all : (gs : List ℕ) → grouped gs ≡ true → Grouped gs
+grouped-all [] e = λ i l. absurd (omega arith)
+grouped-all (g ∷ gs) e = go (ltb g 8) refl e (grouped-all gs)
+  where
+    go : (b : Bool) → ltb g 8 ≡ b → pick b (grouped gs) false ≡ true → (grouped gs ≡ true → Grouped gs) → Grouped (g ∷ gs)
+    go true t e rest zero l = ltb-true g 8 t
+    go true t e rest (suc i) l = rest e i (le-of-suc-le-suc l)
+    go false t e rest i l = absurd (false≢true e)
+
+-- each refusal, with the room as it was
+pub too-long : (gs out : List ℕ) → 272 < length gs → (1 ≡ dealAnswer gs (length out)) × (out ≡ dealOut gs out)
+unfolding dealAnswer dealOut
+too-long gs out l = rw (lt-leb (length gs) 272 l) (refl, refl)
+
+pub other-room : (gs out : List ℕ) → length gs ≤ 272 → (length out ≡ length gs → ⊥) → (2 ≡ dealAnswer gs (length out)) × (out ≡ dealOut gs out)
+unfolding dealAnswer dealOut
+other-room gs out l ne = rw (le-leb (length gs) 272 l, ne-eqb (length out) (length gs) ne) (refl, refl)
+
+pub no-group : (gs out : List ℕ) → length gs ≤ 272 → length out ≡ length gs → grouped gs ≡ false → (3 ≡ dealAnswer gs (length out)) × (out ≡ dealOut gs out)
+unfolding dealAnswer dealOut
+no-group gs out l e n = rw (le-leb (length gs) 272 l, eq-eqb (length out) (length gs) e, n) (refl, refl)
+
+-- A list that keeps to the bounds is dealt.
+pub is-dealt : (gs out : List ℕ) → length gs ≤ 272 → length out ≡ length gs → grouped gs ≡ true → (0 ≡ dealAnswer gs (length out)) × (order gs ≡ dealOut gs out)
+unfolding dealAnswer dealOut
+is-dealt gs out l e y = rw (le-leb (length gs) 272 l, eq-eqb (length out) (length gs) e, y) (refl, refl)
+
+-- Any two answers that meet the promise are equal.
+pub one-answer : (a b : Dealing) → dealingNumber a ≡ dealingNumber b → a ≡ b
+one-answer a b e = sym (found a) ∙ (ap byNumber e ∙ found b)
+  where
+    byNumber : ℕ → Dealing
+    byNumber n = getD (Dealt ∷ TooLong ∷ OtherRoom ∷ NoGroup ∷ []) n Dealt
+
+    found : (d : Dealing) → byNumber (dealingNumber d) ≡ d
+    found Dealt = refl
+    found TooLong = refl
+    found OtherRoom = refl
+    found NoGroup = refl
