@@ -2,7 +2,7 @@
 use Prim.Native.Nat.{ℕ, zero, suc, _<_, _≤_}
 use mathlib.Core.Path.{_≡_, refl, sym, ap, _∙_}
 use mathlib.Core.List.{List, [], _∷_}
-use mathlib.Core.Bool.{Bool, true, false, false≢true}
+use mathlib.Core.Bool.{Bool, true, false, false≢true, _&&_}
 use native.Mathlib.Nat.{le-of-suc-le-suc}
 use native.Mathlib.Omega.{arith}
 use lib.ListN.{length, getD}
@@ -11,7 +11,7 @@ use borrow.Author.Tests.{eq-eqb, ne-eqb, lt-ltb, le-ltb, ltb-true, le-leb, lt-le
 use Rattle.deal.specs.declared.Dealing.{Dealing}
 use Rattle.deal.specs.declared.Dealing.the-variants.{Dealt, TooLong, OtherRoom, NoGroup}
 use Rattle.deal.specs.Interleaving.{order, Grouped}
-use Rattle.deal.specs.Answer.{dealingNumber, pick, grouped, dealAnswer, dealOut}
+use Rattle.deal.specs.Answer.{dealingNumber, grouped, dealAnswer, dealOut}
 
 -- the test says what `Grouped` says
 pub grouped-yes : (gs : List ℕ) → Grouped gs → grouped gs ≡ true
@@ -23,7 +23,7 @@ grouped-no [] i l h = absurd (omega arith)
 grouped-no (g ∷ gs) zero l h = rw (le-ltb g 8 h) refl
 grouped-no (g ∷ gs) (suc i) l h = either (ltb g 8) (grouped-no gs i (le-of-suc-le-suc l) h)
   where
-    either : (b : Bool) → grouped gs ≡ false → pick b (grouped gs) false ≡ false
+    either : (b : Bool) → grouped gs ≡ false → b && grouped gs ≡ false
     either true e = e
     either false e = refl
 
@@ -31,7 +31,7 @@ pub grouped-all : (gs : List ℕ) → grouped gs ≡ true → Grouped gs
 grouped-all [] e = λ i l. absurd (omega arith)
 grouped-all (g ∷ gs) e = go (ltb g 8) refl e (grouped-all gs)
   where
-    go : (b : Bool) → ltb g 8 ≡ b → pick b (grouped gs) false ≡ true → (grouped gs ≡ true → Grouped gs) → Grouped (g ∷ gs)
+    go : (b : Bool) → ltb g 8 ≡ b → b && grouped gs ≡ true → (grouped gs ≡ true → Grouped gs) → Grouped (g ∷ gs)
     go true t e rest zero l = ltb-true g 8 t
     go true t e rest (suc i) l = rest e i (le-of-suc-le-suc l)
     go false t e rest i l = absurd (false≢true e)

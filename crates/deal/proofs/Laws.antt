@@ -1,4 +1,4 @@
--- Laws of interleaving, over lists of anything.
+-- Laws of the groups, of interleaving over lists of anything, and of `order`.
 use Prim.Native.Nat.{ℕ, zero, suc, _+_, _<_, _≤_}
 use mathlib.Core.Path.{_≡_, refl, sym, ap, _∙_}
 use mathlib.Core.Logic.{⊎-elim}
@@ -11,11 +11,34 @@ use lib.ListN.{length, getD, take, length-append, length-map, List·getD-map}
 use lib.Seq.{take-all, take-suc, take-length}
 use lib.Dec.{eqb}
 use borrow.Author.Tests.{eq-eqb, ne-eqb, eqb-true}
-use Rattle.deal.specs.Interleaving.{keep, joined, queue, nth, round, interleave, upto, order, Grouped}
+use Rattle.deal.specs.Interleaving.{groupOf, rankOf, familyOf, keep, joined, queue, nth, round, interleave, upto, order, Grouped}
 use Rattle.deal.proofs.Lists.{keep-joined, keep-all, keep-none, keep-ext, length-keep, joined-ext, joined-none, joined-more, joined-only, joined-nth, nth-past, mem-nth, mem-joined, mem-keep, perm-of-eq, joined-swap, joined-insert, keep-map, map-joined, map-nth, getD-mem, perm-length}
 
+-- The example in the Rust's comment: three IPv6 addresses, then one IPv4 address, each with H3 and H2OrH1, and IPv6 preferred.
+pub comment-example : order (groupOf 0 0 ∷ groupOf 1 0 ∷ groupOf 0 0 ∷ groupOf 1 0 ∷ groupOf 0 0 ∷ groupOf 1 0 ∷ groupOf 0 1 ∷ groupOf 1 1 ∷ []) ≡ 0 ∷ 6 ∷ 1 ∷ 7 ∷ 2 ∷ 3 ∷ 4 ∷ 5 ∷ []
+unfolding groupOf order interleave round nth queue
+comment-example = refl
+
+-- A group is its rank and its family, and ranks below 4 and families below 2 give the eight.
+pub group-rank : (r f : ℕ) → f < 2 → rankOf (groupOf r f) ≡ r
+unfolding rankOf groupOf
+group-rank r f l = omega arith
+
+pub group-family : (r f : ℕ) → f < 2 → familyOf (groupOf r f) ≡ f
+unfolding familyOf groupOf
+group-family r f l = omega arith
+
+pub group-below : (r f : ℕ) → r < 4 → f < 2 → groupOf r f < 8
+unfolding groupOf
+group-below r f k l = omega arith
+
+pub group-again : (g : ℕ) → groupOf (rankOf g) (familyOf g) ≡ g
+unfolding groupOf rankOf familyOf
+group-again g = omega arith
+
 module _ {A : Type 0} where
-  pub round-past : (f : A → ℕ) (xs : List A) (r : ℕ) → length xs ≤ r → round f xs r ≡ []
+  -- there are no more rounds than members
+  round-past : (f : A → ℕ) (xs : List A) (r : ℕ) → length xs ≤ r → round f xs r ≡ []
   unfolding round queue
   round-past f xs r l = joined-none 8 _ (λ g m. nth-past r (keep (λ x. eqb (f x) g) xs) (omega (arith, length-keep (λ x. eqb (f x) g) xs)))
 
@@ -46,20 +69,24 @@ module _ {A : Type 0} where
   unfolding queue
   nth-group f xs g r x m = eqb-true (f x) g (mem-keep (λ y. eqb (f y) g) xs (mem-nth r (keep (λ y. eqb (f y) g) xs) m) .1)
 
+  -- the rounds of one group together are its queue
+  rounds-queue : (f : A → ℕ) (xs : List A) (g : ℕ) → joined (length xs) (λ r. nth r (queue f xs g)) ≡ queue f xs g
+  rounds-queue f xs g = joined-nth (length xs) (queue f xs g) ∙ take-all (length xs) (queue f xs g) short
+    where
+      short : length (queue f xs g) ≤ length xs
+      short = unfold queue in length-keep (λ x. eqb (f x) g) xs
+
   -- Input order holds inside a group: each group's queue stays as it was.
   pub inner-order : (f : A → ℕ) (xs : List A) (g : ℕ) → g < 8 → queue f (interleave f xs) g ≡ queue f xs g
   unfolding interleave round
   inner-order f xs g l =
-      split ∙ (joined-ext (length xs) (λ r. keep p (round f xs r)) (λ r. nth r (queue f xs g)) (λ r m. each r) ∙ (joined-nth (length xs) (queue f xs g) ∙ take-all (length xs) (queue f xs g) short))
+      split ∙ (joined-ext (length xs) (λ r. keep p (round f xs r)) (λ r. nth r (queue f xs g)) (λ r m. each r) ∙ rounds-queue f xs g)
     where
       p : A → Bool
       p x = eqb (f x) g
 
       split : queue f (interleave f xs) g ≡ joined (length xs) (λ r. keep p (round f xs r))
       split = unfold queue in keep-joined p (length xs) (round f xs)
-
-      short : length (queue f xs g) ≤ length xs
-      short = unfold queue in length-keep p xs
 
       yes-g : (r : ℕ) (x : A) → List·Memᴰ x (nth r (queue f xs g)) → p x ≡ true
       yes-g r x m = eq-eqb (f x) g (nth-group f xs g r x m)
@@ -93,15 +120,9 @@ module _ {A : Type 0} where
   unfolding interleave round
   permutation f xs h =
       Perm·trans (joined-swap (length xs) 8 (λ r g. nth r (queue f xs g)))
-      (Perm·trans (perm-of-eq (joined-ext 8 (λ g. joined (length xs) (λ r. nth r (queue f xs g))) (queue f xs) (λ g l. whole g))) (queues-perm f 8 xs h))
-    where
-      short : (g : ℕ) → length (queue f xs g) ≤ length xs
-      short g = unfold queue in length-keep (λ x. eqb (f x) g) xs
+      (Perm·trans (perm-of-eq (joined-ext 8 (λ g. joined (length xs) (λ r. nth r (queue f xs g))) (queue f xs) (λ g l. rounds-queue f xs g))) (queues-perm f 8 xs h))
 
-      whole : (g : ℕ) → joined (length xs) (λ r. nth r (queue f xs g)) ≡ queue f xs g
-      whole g = joined-nth (length xs) (queue f xs g) ∙ take-all (length xs) (queue f xs g) (short g)
-
-  -- only the groups of the members matter
+  -- Only the groups of the members matter.
   pub group-ext : (f g : A → ℕ) (xs : List A) → ((x : A) → List·Memᴰ x xs → f x ≡ g x) → interleave f xs ≡ interleave g xs
   unfolding interleave round queue
   group-ext f g xs e =
@@ -119,7 +140,7 @@ module _ {A B : Type 0} (h : A → B) where
       (λ g m. ap (nth r) (map-queue f xs g) ∙ sym (map-nth h r (queue (λ x. f (h x)) xs g)))
       ∙ sym (map-joined h 8 (λ g. nth r (queue (λ x. f (h x)) xs g)))
 
-  -- what is dealt does not matter, only its group
+  -- What is dealt does not matter, only its group.
   pub natural : (f : B → ℕ) (xs : List A) → interleave f (map h xs) ≡ map h (interleave (λ x. f (h x)) xs)
   unfolding interleave
   natural f xs =
@@ -133,7 +154,7 @@ getD-default [] i d e l = absurd (omega arith)
 getD-default (x ∷ xs) zero d e l = refl
 getD-default (x ∷ xs) (suc i) d e l = getD-default xs i d e (le-of-suc-le-suc l)
 
--- positions
+-- the positions below n
 pub mem-upto : (n i : ℕ) → List·Memᴰ i (upto n) → i < n
 mem-upto zero i m = absurd (List·Memᴰ·not-nil m)
 mem-upto (suc n) i m =
@@ -162,7 +183,7 @@ by-order f xs d =
     groups : interleave (λ i. f (getD xs i d)) (upto (length xs)) ≡ interleave (λ i. getD (map f xs) i 0) (upto (length (map f xs)))
     groups = rw (length-map xs f) (group-ext (λ i. f (getD xs i d)) (λ i. getD (map f xs) i 0) (upto (length xs)) (λ i m. at i (mem-upto (length xs) i m)))
 
--- `order` is a permutation of the positions
+-- `order` is a permutation of the positions,
 pub order-permutation : (gs : List ℕ) → Grouped gs → Perm (order gs) (upto (length gs))
 unfolding order
 order-permutation gs small = permutation (λ i. getD gs i 0) (upto (length gs)) (λ i m. small i (mem-upto (length gs) i m))

@@ -2,6 +2,6 @@ pub mod Lists
 pub mod Laws
 pub mod Rising
 pub mod Answers
-pub mod Queued
-pub mod Rounds
-pub mod Whole
+mod Queued
+mod Rounds
+mod Whole

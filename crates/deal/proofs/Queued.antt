@@ -1,4 +1,4 @@
--- What one push does to the queues: `Held` at the start, and one position further.
+-- What the turns of `fill` do to the queues: `Held` at the start, one position further, and at the end.
 use Prim.Native.Nat.{ℕ, suc, _+_, _*_, _-_, _<_, _≤_}
 use mathlib.Core.Path.{_≡_, refl, sym, ap, _∙_}
 use mathlib.Core.Logic.{_⊎_, inl, inr, ⊎-elim}
@@ -18,7 +18,7 @@ use Rattle.deal.proofs.Laws.{length-upto}
 use Rattle.deal.proofs.Answers.{grouped-yes}
 
 -- the queues hold at most the positions passed
-pub line-short : (gs : List ℕ) (n g : ℕ) → length (line gs n g) ≤ n
+line-short : (gs : List ℕ) (n g : ℕ) → length (line gs n g) ≤ n
 unfolding queue
 line-short gs n g = omega (arith, length-keep (λ i. eqb (getD gs i 0) g) (upto n), length-upto n)
 
@@ -32,7 +32,8 @@ line-other : (gs : List ℕ) (n g : ℕ) → (getD gs n 0 ≡ g → ⊥) → lin
 unfolding queue
 line-other gs n g ne = keep-append (λ i. eqb (getD gs i 0) g) (upto n) (n ∷ []) ∙ rw (ne-eqb (getD gs n 0) g ne) (append-nil _)
 
-pub held-none : (gs qs : List ℕ) → length qs ≡ 2176 → Held gs 0 qs (replicate 8 0)
+-- before the first position
+held-none : (gs qs : List ℕ) → length qs ≡ 2176 → Held gs 0 qs (replicate 8 0)
 unfolding queue
 held-none gs qs r = record { room = r; eight = refl; counted = λ g l. getD-replicate 8 g 0 0 l; stands = λ g l. refl }
 
@@ -44,6 +45,7 @@ take-drop-set qs a n x v (inr l) = ap (λ y. take n (drop a (set qs y v))) e ∙
     e : x ≡ a + (x - a)
     e = omega arith
 
+-- equal, or apart
 ne-or : (a b : ℕ) → (a ≡ b) ⊎ ((a < b) ⊎ (b < a))
 ne-or a b = ⊎-elim (λ l. inr (inl l)) (λ l. ⊎-elim (λ m. inr (inr m)) (λ m. inl (omega arith)) (lt-or-ge b a)) (lt-or-ge a b)
 
@@ -55,7 +57,8 @@ apart : (a b : ℕ) → (a < b) ⊎ (b < a) → a ≡ b → ⊥
 apart a b (inl l) e = omega arith
 apart a b (inr l) e = omega arith
 
-pub held-step : (gs : List ℕ) (n g : ℕ) (qs cs : List ℕ) → n < 272 → getD gs n 0 ≡ g → g < 8 → Held gs n qs cs
+-- position n is pushed to the end of queue g
+held-step : (gs : List ℕ) (n g : ℕ) (qs cs : List ℕ) → n < 272 → getD gs n 0 ≡ g → g < 8 → Held gs n qs cs
     → Held gs (n + 1) (set qs (g * 272 + getD cs g 0) n) (set cs g (getD cs g 0 + 1))
 held-step gs n g qs cs small is g8 h = rw add-one record { room = length-set qs _ n ∙ h .room; eight = length-set cs g _ ∙ h .eight; counted = counted; stands = stands }
   where

@@ -12,7 +12,7 @@ use lib.Dec.{eqb}
 use borrow.Author.Tests.{eqb-true}
 use Rattle.deal.specs.Interleaving.{rankOf, familyOf, consIf, keep, queue, nth, round, interleave, upto, order, Grouped, place, Below, Rises, Interleaved}
 use Rattle.deal.proofs.Lists.{lt-or-ge, keep-append, nth-past, nth-left, nth-right, mem-nth, mem-joined, joined-pairwise, nth-pairwise, getD-past}
-use Rattle.deal.proofs.Laws.{nth-group, permutation, map-queue, map-upto, order-permutation}
+use Rattle.deal.proofs.Laws.{nth-group, map-queue, map-upto, order-permutation}
 
 -- as many of the first n positions are in group g as of the first n groups are g
 queue-length : (gs : List ℕ) (n g : ℕ) → n ≤ length gs → length (queue (λ i. getD gs i 0) (upto n) g) ≡ length (queue (λ x. x) (take n gs) g)
@@ -68,7 +68,7 @@ key-at : (gs : List ℕ) (i : ℕ) → key gs i ≡ place gs i * 8 + getD gs i 0
 unfolding key
 key-at gs i = refl
 
--- the order of the key, which at most one proof says of two positions
+-- the order of the key
 abbrev KeyRises : List ℕ → ℕ → ℕ → Type 0
 KeyRises gs i j = key gs i < key gs j
 
@@ -105,7 +105,7 @@ key-rising gs = joined-pairwise (KeyRises gs) (λ i j. le-prop) (length (upto (l
 below-8 : (gs : List ℕ) → Grouped gs → (i : ℕ) → getD gs i 0 < 8
 below-8 gs small i = ⊎-elim (small i) (λ l. rw (getD-past gs i 0 l) (omega arith)) (lt-or-ge i (length gs))
 
--- with the place at 8, and the rank at 2, in one number, the number rises exactly as the three do
+-- p * 8 + g rises exactly as (p, g / 2, g % 2) does
 number-below : (p g q h : ℕ) → g < 8 → h < 8 → p * 8 + g < q * 8 + h → Below p (g / 2) (g % 2) q (h / 2) (h % 2)
 number-below p g q h g8 h8 l =
     ⊎-elim inl

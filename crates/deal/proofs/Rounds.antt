@@ -1,5 +1,5 @@
 -- What one turn of the dealing loops does to `active` and `out`.
-use Prim.Native.Nat.{ℕ, suc, _+_, _*_, _<_, _≤_}
+use Prim.Native.Nat.{ℕ, suc, _+_, _<_, _≤_}
 use mathlib.Core.Path.{_≡_, refl, sym, ap, _∙_, subst}
 use mathlib.Core.List.{List, [], _∷_, _++_, map-append, append-nil, append-assoc, List·Memᴰ}
 use mathlib.Core.Bool.{Bool, true, false}
@@ -8,29 +8,28 @@ use native.Mathlib.Numerals.{add-one}
 use native.Mathlib.Omega.{arith}
 use lib.ListN.{length, getD, take, drop, set, length-set}
 use lib.Seq.{take-suc, take-suc-set, drop-drop, drop-set-lt, getD-take, getD-drop, length-take-le}
-use lib.Dec.{ltb}
 use borrow.Author.Tests.{lt-ltb, le-ltb, ltb-true}
 use Rattle.deal.specs.Interleaving.{consIf, keep, upto}
-use Rattle.deal.specs.Queues.{has, Active, members}
+use Rattle.deal.specs.Queues.{has, Active, member, members}
 use Rattle.deal.proofs.Lists.{keep-append, mem-keep, keep-keep, getD-mem}
 use Rattle.deal.proofs.Laws.{mem-upto}
 
--- a group that is active is below 8
-pub active-small : (counts : List ℕ) (r m : ℕ) (active : List ℕ) → Active counts r m active → (t : ℕ) → t < m → getD active t 0 < 8
-active-small counts r m active a t l = mem-upto 8 (getD active t 0) (mem-keep (has counts r) (upto 8) member .0)
+-- an active group is one of the eight, and has an r-th member
+pub active-group : (counts : List ℕ) (r m : ℕ) (active : List ℕ) → Active counts r m active → (t : ℕ) → t < m → (getD active t 0 < 8) × (r < getD counts (getD active t 0) 0)
+active-group counts r m active a t l = (mem-upto 8 (getD active t 0) (kept .0), ltb-true r (getD counts (getD active t 0) 0) (kept .1))
   where
-    inside : List·Memᴰ (getD (take m active) t 0) (take m active)
-    inside = getD-mem (take m active) t 0 (omega (arith, length-take-le m active (omega (arith, a .within, a .eight))))
+    inside : List·Memᴰ (getD active t 0) (take m active)
+    inside = rw (getD-take m active t 0 l) at (getD-mem (take m active) t 0 (omega (arith, length-take-le m active (omega (arith, a .within, a .eight)))))
 
-    member : List·Memᴰ (getD active t 0) (keep (has counts r) (upto 8))
-    member = subst (λ (l : List ℕ). List·Memᴰ (getD active t 0) l) (a .are) (rw (getD-take m active t 0 l) at inside)
+    kept : List·Memᴰ (getD active t 0) (upto 8) × (has counts r (getD active t 0) ≡ true)
+    kept = mem-keep (has counts r) (upto 8) (subst (λ (l : List ℕ). List·Memᴰ (getD active t 0) l) (a .are) inside)
 
 -- a group that has a k-th member has all before it
 pub has-later : (counts : List ℕ) (r k : ℕ) → r ≤ k → (gs : List ℕ) → keep (has counts k) (keep (has counts r) gs) ≡ keep (has counts k) gs
 has-later counts r k l = keep-keep (has counts k) (has counts r) (λ g e. lt-ltb r (getD counts g 0) (omega (arith, ltb-true k (getD counts g 0) e)))
 
 -- what is ahead is as it was
-pub ahead : (active active₀ : List ℕ) (t : ℕ) → drop t active ≡ drop t active₀ → getD active t 0 ≡ getD active₀ t 0
+ahead : (active active₀ : List ℕ) (t : ℕ) → drop t active ≡ drop t active₀ → getD active t 0 ≡ getD active₀ t 0
 ahead active active₀ t e = ap (λ n. getD active n 0) (sym (add-zero t)) ∙ (sym (getD-drop t active 0 0) ∙ (ap (λ l. getD l 0 0) e ∙ (getD-drop t active₀ 0 0 ∙ ap (λ n. getD active₀ n 0) (add-zero t))))
 
 -- after t turns of a round
@@ -55,27 +54,27 @@ module _ (qs counts active₀ out₀ : List ℕ) (r at t k : ℕ) (active out : 
   rest-next : drop (t + 1) active ≡ drop (t + 1) active₀
   rest-next = sym (drop-drop 1 t active) ∙ (ap (drop 1) (h .rest) ∙ drop-drop 1 t active₀)
 
-  put-next : take (at + (t + 1)) (set out (at + t) (getD qs (getD active t 0 * 272 + r) 0)) ≡ take at out₀ ++ members qs r (take (t + 1) active₀)
+  put-next : take (at + (t + 1)) (set out (at + t) (member qs r (getD active t 0))) ≡ take at out₀ ++ members qs r (take (t + 1) active₀)
   put-next =
       ap (λ n. take n (set out (at + t) v)) e
       ∙ (take-suc-set out (at + t) v room
       ∙ (ap (λ l. l ++ (v ∷ [])) (h .put)
       ∙ (append-assoc (take at out₀) (members qs r (take t active₀)) (v ∷ [])
-      ∙ ap (λ l. take at out₀ ++ l) (sym (ap (members qs r) further ∙ map-append (λ g. getD qs (g * 272 + r) 0) (take t active₀) (getD active t 0 ∷ []))))))
+      ∙ ap (λ l. take at out₀ ++ l) (sym (ap (members qs r) further ∙ map-append (member qs r) (take t active₀) (getD active t 0 ∷ []))))))
     where
       v : ℕ
-      v = getD qs (getD active t 0 * 272 + r) 0
+      v = member qs r (getD active t 0)
 
       e : at + (t + 1) ≡ suc (at + t)
       e = omega arith
 
-  keep-next : (b : Bool) → ltb (r + 1) (getD counts (getD active t 0) 0) ≡ b → keep (has counts (r + 1)) (take (t + 1) active₀) ≡ take k active ++ consIf b (getD active t 0) []
+  keep-next : (b : Bool) → has counts (r + 1) (getD active t 0) ≡ b → keep (has counts (r + 1)) (take (t + 1) active₀) ≡ take k active ++ consIf b (getD active t 0) []
   keep-next b e =
       ap (keep (has counts (r + 1))) further
       ∙ (keep-append (has counts (r + 1)) (take t active₀) (getD active t 0 ∷ [])
-      ∙ (ap (λ l. l ++ consIf (ltb (r + 1) (getD counts (getD active t 0) 0)) (getD active t 0) []) (sym (h .kept)) ∙ ap (λ c. take k active ++ consIf c (getD active t 0) []) e))
+      ∙ (ap (λ l. l ++ consIf (has counts (r + 1) (getD active t 0)) (getD active t 0) []) (sym (h .kept)) ∙ ap (λ c. take k active ++ consIf c (getD active t 0) []) e))
 
-  pub turn-kept : r + 1 < getD counts (getD active t 0) 0 → Turn qs counts active₀ out₀ r at (t + 1) (k + 1) (set active k (getD active t 0)) (set out (at + t) (getD qs (getD active t 0 * 272 + r) 0))
+  pub turn-kept : r + 1 < getD counts (getD active t 0) 0 → Turn qs counts active₀ out₀ r at (t + 1) (k + 1) (set active k (getD active t 0)) (set out (at + t) (member qs r (getD active t 0)))
   turn-kept l = record {
     behind = omega (arith, h .behind);
     eight = length-set active k _ ∙ h .eight;
@@ -85,7 +84,7 @@ module _ (qs counts active₀ out₀ : List ℕ) (r at t k : ℕ) (active out : 
     put = put-next;
   }
 
-  pub turn-left : getD counts (getD active t 0) 0 ≤ r + 1 → Turn qs counts active₀ out₀ r at (t + 1) k active (set out (at + t) (getD qs (getD active t 0 * 272 + r) 0))
+  pub turn-left : getD counts (getD active t 0) 0 ≤ r + 1 → Turn qs counts active₀ out₀ r at (t + 1) k active (set out (at + t) (member qs r (getD active t 0)))
   turn-left l = record {
     behind = omega (arith, h .behind);
     eight = h .eight;
@@ -95,8 +94,9 @@ module _ (qs counts active₀ out₀ : List ℕ) (r at t k : ℕ) (active out : 
     put = put-next;
   }
 
+-- the group at hand is one of the eight
 pub turn-small : (qs counts active₀ out₀ : List ℕ) (r at m t k : ℕ) (active out : List ℕ) → Active counts r m active₀ → Turn qs counts active₀ out₀ r at t k active out → t < m → getD active t 0 < 8
-turn-small qs counts active₀ out₀ r at m t k active out a h l = rw (ahead active active₀ t (h .rest)) (active-small counts r m active₀ a t l)
+turn-small qs counts active₀ out₀ r at m t k active out a h l = rw (ahead active active₀ t (h .rest)) (active-group counts r m active₀ a t l .0)
 
 -- a round's end
 pub turn-end : (qs counts active₀ out₀ : List ℕ) (r at m t k : ℕ) (active out : List ℕ) → t ≡ m → Active counts r m active₀ → Turn qs counts active₀ out₀ r at t k active out
@@ -110,23 +110,23 @@ turn-end qs counts active₀ out₀ r at m t k active out e a h = (next, (rw e a
       are = rw e at (h .kept) ∙ (ap (keep (has counts (r + 1))) (a .are) ∙ has-later counts r (r + 1) (omega arith) (upto 8));
     }
 
--- after g turns of `first`
-pub record Some (counts : List ℕ) (active : List ℕ) (k g : ℕ) : Type 0 where
+-- after g turns of `first_round`
+pub record Chosen (counts : List ℕ) (active : List ℕ) (k g : ℕ) : Type 0 where
   pub passed : g ≤ 8
   pub behind : k ≤ g
   pub eight : length active ≡ 8
   pub kept : take k active ≡ keep (has counts 0) (upto g)
 
-pub some-kept : (counts active : List ℕ) (k g : ℕ) → Some counts active k g → g < 8 → 0 < getD counts g 0 → Some counts (set active k g) (k + 1) (g + 1)
-some-kept counts active k g s l t = rw (add-one k, add-one g) record {
+pub chosen-kept : (counts active : List ℕ) (k g : ℕ) → Chosen counts active k g → g < 8 → 0 < getD counts g 0 → Chosen counts (set active k g) (k + 1) (g + 1)
+chosen-kept counts active k g s l t = rw (add-one k, add-one g) record {
   passed = l;
   behind = omega (arith, s .behind);
   eight = length-set active k g ∙ s .eight;
   kept = take-suc-set active k g (omega (arith, s .behind, s .eight)) ∙ (ap (λ y. y ++ (g ∷ [])) (s .kept) ∙ sym (keep-append (has counts 0) (upto g) (g ∷ []) ∙ rw (lt-ltb 0 (getD counts g 0) t) refl));
 }
 
-pub some-left : (counts active : List ℕ) (k g : ℕ) → Some counts active k g → g < 8 → getD counts g 0 ≤ 0 → Some counts active k (g + 1)
-some-left counts active k g s l t = rw (add-one g) record {
+pub chosen-left : (counts active : List ℕ) (k g : ℕ) → Chosen counts active k g → g < 8 → getD counts g 0 ≤ 0 → Chosen counts active k (g + 1)
+chosen-left counts active k g s l t = rw (add-one g) record {
   passed = l;
   behind = omega (arith, s .behind);
   eight = s .eight;

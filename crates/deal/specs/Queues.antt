@@ -28,6 +28,10 @@ pub record Active (counts : List ℕ) (r m : ℕ) (active : List ℕ) : Type 0 w
   pub eight : length active ≡ 8
   pub are : take m active ≡ keep (has counts r) (upto 8)
 
--- the r-th member of each group of gs, out of the queues
+-- the r-th member of queue g
+abbrev pub member : List ℕ → ℕ → ℕ → ℕ
+member qs r g = getD qs (g * 272 + r) 0
+
+-- the r-th member of each of the groups
 abbrev pub members : List ℕ → ℕ → List ℕ → List ℕ
-members qs r gs = map (λ g. getD qs (g * 272 + r) 0) gs
+members qs r groups = map (member qs r) groups

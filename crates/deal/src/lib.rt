@@ -1,11 +1,11 @@
 // Interleaving (document 01, part 3), over positions: the caller has the group of each of its endpoints, and gets the order to attempt them in.
 ghost use mathlib.Core.Path.{_≡_};
-ghost use mathlib.Core.Bool.{true};
+ghost use mathlib.Core.Bool.{true, cond};
 ghost use mathlib.Core.List.{_++_};
 ghost use Prim.Native.Nat.{_+_, _<_, _≤_};
 ghost use lib.ListN.{length, take, replicate};
 ghost use Rattle.deal.specs.Interleaving.{order};
-ghost use Rattle.deal.specs.Answer.{dealingNumber, grouped, pick, dealAnswer, dealOut};
+ghost use Rattle.deal.specs.Answer.{dealingNumber, grouped, dealAnswer, dealOut};
 ghost use Rattle.deal.specs.Queues.{Held, Active, members};
 
 // A listing has at most this many endpoints.
@@ -91,7 +91,7 @@ fn deal_round(
 fn deal_rounds(groups: &[u8], out: &mut [u16]) -> bool
     requires { ⌜ (length (now groups) ≤ 272) × (length (now out) ≡ length (now groups)) ⌝ }
     ensures tested { λ r. ⌜ r ≡ grouped (now (groups .entry)) ⌝ }
-    ensures dealt { λ r. ⌜ now (out .exit) ≡ pick r (order (now (groups .entry))) (now (out .entry)) ⌝ }
+    ensures dealt { λ r. ⌜ now (out .exit) ≡ cond r (order (now (groups .entry))) (now (out .entry)) ⌝ }
 {
     let mut queues = [0u16; 2176];
     let mut counts = [0usize; 8];

@@ -1,18 +1,22 @@
 -- `deal` answers as its definition does, refusals included, by the laws of the answer.
 use borrow.Author.Needs.{needs}
 use mathlib.Core.Path.{sym, _∙_}
+use native.Mathlib.Omega.{arith}
+use denote.Ref.{now}
 use Rattle.deal.proofs.Answers.{too-long, other-room, no-group, is-dealt}
 use Rattle.deal.proofs.deal.Statement.{statement}
 use Rattle.deal.proofs.deal.Tie as tie
 
 returns : tie.Need-returns
-returns c = too-long _ _ (c .if1 .taken)
+returns c = too-long (now (c .before .before .before .args .groups)) _ (omega arith)
 
 returns-2 : tie.Need-returns-2
-returns-2 c = other-room _ _ (c .before .if1 .left) (c .if2 .taken)
+returns-2 c =
+    let a = c .before .before .before .before .args in
+    other-room (now (a .groups)) (now (a .out)) (omega arith) (λ e. omega (arith, c .if2 .taken))
 
 deal-rounds-requires : tie.Need-deal-rounds-requires
-deal-rounds-requires c κs = search needs
+deal-rounds-requires c κs = (omega arith, omega arith)
 
 same-length : tie.Need-same-length
 same-length c = search needs

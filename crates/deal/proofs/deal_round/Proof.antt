@@ -1,3 +1,4 @@
+-- `deal_round` deals one round, and keeps the groups that have one more member.
 use Prim.Native.Nat.{_-_, _<_, _≤_}
 use mathlib.Core.Logic.{⊎-elim}
 use native.Mathlib.Omega.{arith}

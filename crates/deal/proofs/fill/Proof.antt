@@ -2,6 +2,8 @@
 use Prim.Native.Nat.{_-_, _≤_}
 use mathlib.Core.Path.{sym}
 use mathlib.Core.Bool.{false≢true}
+use mir.Facts.{fits-widen}
+use mir.Syntax.{w8}
 use native.Mathlib.Omega.{arith}
 use lib.ListN.{length, getD}
 use denote.Ref.{now}
@@ -23,10 +25,10 @@ shared-slice-read-g : tie.Need-shared-slice-read-g Inv-loop μ-loop
 shared-slice-read-g c = omega arith
 
 cast-g : tie.Need-cast-g Inv-loop μ-loop
-cast-g c = omega (arith, c .shared-slice-known .given (c .before .before .loop .i))
+cast-g c = fits-widen {w = w8} tt (c .shared-slice-known .given _)
 
 returns : tie.Need-returns Inv-loop μ-loop
-returns c = (sym (grouped-no (now (c .before .before .before .before .args .groups)) (c .before .before .before .loop .i) (omega arith) (c .if1 .taken)), λ e. absurd (false≢true e))
+returns c = (sym (grouped-no (now (c .before .before .before .before .args .groups)) (c .before .before .before .loop .i) (omega arith) (omega arith)), λ e. absurd (false≢true e))
 
 mul-c : tie.Need-mul-c Inv-loop μ-loop
 mul-c c = omega (arith, c .if1 .left)

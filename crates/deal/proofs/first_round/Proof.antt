@@ -1,13 +1,14 @@
+-- `first_round` lists the groups that have a member.
 use Prim.Native.Nat.{_-_}
 use mathlib.Core.Path.{_≡_, refl}
 use mathlib.Core.Logic.{⊎-elim}
 use native.Mathlib.Omega.{arith}
-use Rattle.deal.proofs.Rounds.{Some, some-kept, some-left}
+use Rattle.deal.proofs.Rounds.{Chosen, chosen-kept, chosen-left}
 use Rattle.deal.proofs.first_round.Statement.{statement}
 use Rattle.deal.proofs.first_round.Tie as tie
 
 abbrev Inv-loop : tie.InvT-loop
-Inv-loop counts active₀ m₀ g₀ active m g = Some counts active m g
+Inv-loop counts active₀ m₀ g₀ active m g = Chosen counts active m g
 
 abbrev μ-loop : tie.MeasureT-loop
 μ-loop counts active₀ m₀ g₀ active m g = 8 - g
@@ -39,8 +40,8 @@ loop-less c = omega arith
 loop-again : tie.Need-loop-again Inv-loop μ-loop
 loop-again c =
     ⊎-elim
-    (λ w. rw (w .1, w .2) (some-kept _ _ _ _ (c .before .before .before .loop .inv) (omega arith) (w .0 .taken)))
-    (λ w. rw (w .1, w .2) (some-left _ _ _ _ (c .before .before .before .loop .inv) (omega arith) (w .0 .left)))
+    (λ w. rw (w .1, w .2) (chosen-kept _ _ _ _ (c .before .before .before .loop .inv) (omega arith) (w .0 .taken)))
+    (λ w. rw (w .1, w .2) (chosen-left _ _ _ _ (c .before .before .before .loop .inv) (omega arith) (w .0 .left)))
     (c .if1 .came)
 
 returns : tie.Need-returns Inv-loop μ-loop
