@@ -1,17 +1,18 @@
 -- `deal`'s answer: when it deals and when it refuses, and that its promise settles it.
 use Prim.Native.Nat.{ℕ, zero, suc, _<_, _≤_}
 use mathlib.Core.Path.{_≡_, refl, sym, ap, _∙_}
-use mathlib.Core.List.{List, [], _∷_}
+use mathlib.Core.List.{List, [], _∷_, map}
 use mathlib.Core.Bool.{Bool, true, false, false≢true, _&&_}
 use native.Mathlib.Nat.{le-of-suc-le-suc}
 use native.Mathlib.Omega.{arith}
-use lib.ListN.{length, getD}
+use lib.ListN.{length, getD, length-map}
 use lib.Dec.{ltb}
 use borrow.Author.Tests.{eq-eqb, ne-eqb, lt-ltb, le-ltb, ltb-true, le-leb, lt-leb}
 use Rattle.deal.specs.declared.Dealing.{Dealing}
 use Rattle.deal.specs.declared.Dealing.the-variants.{Dealt, TooLong, OtherRoom, NoGroup}
-use Rattle.deal.specs.Interleaving.{order, Grouped}
+use Rattle.deal.specs.Interleaving.{interleave, order, Grouped}
 use Rattle.deal.specs.Answer.{dealingNumber, grouped, dealAnswer, dealOut}
+use Rattle.deal.proofs.Laws.{by-order}
 
 -- the test says what `Grouped` says
 pub grouped-yes : (gs : List ℕ) → Grouped gs → grouped gs ≡ true
@@ -53,6 +54,18 @@ no-group gs out l e n = rw (le-leb (length gs) 272 l, eq-eqb (length out) (lengt
 pub is-dealt : (gs out : List ℕ) → length gs ≤ 272 → length out ≡ length gs → grouped gs ≡ true → (0 ≡ dealAnswer gs (length out)) × (order gs ≡ dealOut gs out)
 unfolding dealAnswer dealOut
 is-dealt gs out l e y = rw (le-leb (length gs) 272 l, eq-eqb (length out) (length gs) e, y) (refl, refl)
+
+-- the groups of a list, where each is one of the eight
+pub grouped-map : {A : Type 0} (f : A → ℕ) → ((x : A) → f x < 8) → (xs : List A) → grouped (map f xs) ≡ true
+grouped-map f h [] = refl
+grouped-map f h (x ∷ xs) = rw (lt-ltb (f x) 8 (h x)) (grouped-map f h xs)
+
+-- Given the groups of a list's members, `deal` deals, and picking by what it leaves in the room is interleaving the list.
+pub deals-interleaved : {A : Type 0} (f : A → ℕ) → ((x : A) → f x < 8) → (xs : List A) (d : A) (out : List ℕ) → length xs ≤ 272 → length out ≡ length xs
+    → (0 ≡ dealAnswer (map f xs) (length out)) × (interleave f xs ≡ map (λ i. getD xs i d) (dealOut (map f xs) out))
+deals-interleaved f h xs d out l e =
+    let r = is-dealt (map f xs) out (rw (length-map xs f) l) (e ∙ sym (length-map xs f)) (grouped-map f h xs) in
+    (r .0, by-order f xs d ∙ ap (map (λ i. getD xs i d)) (r .1))
 
 -- Any two answers that meet the promise are equal.
 pub one-answer : (a b : Dealing) → dealingNumber a ≡ dealingNumber b → a ≡ b

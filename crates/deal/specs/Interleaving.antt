@@ -1,4 +1,4 @@
--- Interleaving, document 01 part 3. The Rust (`interleave_endpoints`) quotes the draft for its two ends: "Whichever address family is first in the
+-- Interleaving, document 01 part 3. The Rust (`interleave_endpoints`) quotes the draft for its two aims: "Whichever address family is first in the
 -- list should be followed by an endpoint of the other address family" (5.3), and "Clients SHOULD avoid grouping and sorting separately in cases
 -- where their use of an application protocol or feature is non-critical" (5.1.1). So endpoints stand in groups and are dealt in rounds: a round
 -- gives the next member of each group that still has one, most preferred group first.
