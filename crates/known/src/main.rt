@@ -106,6 +106,29 @@ fn show_id(next: u64) {
     text(b"\n");
 }
 
+// H3 v6 a, H3 v6 b, H3 v4 c and H2 v4 d are in groups 0, 0, 1 and 5 where v6 is preferred.
+fn show_dealt() {
+    let groups = [0u8, 0, 1, 5];
+    let letters = b"abcd";
+    let mut order = [0u16; 4];
+    deal::deal(&groups, &mut order);
+    text(b"H3 v6 a, H3 v6 b, H3 v4 c, H2 v4 d, preferring v6:");
+    show_letter(letters, order[0]);
+    show_letter(letters, order[1]);
+    show_letter(letters, order[2]);
+    show_letter(letters, order[3]);
+    text(b"\n");
+}
+
+fn show_letter(letters: &[u8; 4], at: u16) {
+    let i = at as usize;
+    if i < 4 {
+        text(b" ");
+        let letter = [letters[i]];
+        text(&letter);
+    }
+}
+
 fn main() {
     show_factor(2, 0);
     show_factor(2, 1);
@@ -120,5 +143,6 @@ fn main() {
     show_written(443);
     show_read(b"\x80\x00");
     show_read(b"\x80");
+    show_dealt();
     show_id(18446744073709551615);
 }

@@ -1,6 +1,6 @@
 -- The loop of `name_ok`: what each of its ways says of the rest of the name.
 use mathlib.Core.Path.{_≡_, refl, _∙_}
-use mathlib.Core.Bool.{Bool, true, false, _&&_}
+use mathlib.Core.Bool.{Bool, true, false, _&&_, cond}
 use mathlib.Core.List.{List, _∷_}
 use Prim.Native.Nat.{ℕ, _+_, _-_, _≤_, _<_}
 use native.Mathlib.Numerals.{add-one}
@@ -9,7 +9,6 @@ use lib.ListN.{length, getD, drop, length-drop, drop-of-length-le}
 use lib.Seq.{drop-cons}
 use lib.Dec.{ltb}
 use borrow.Author.Tests.{eq-eqb, ne-eqb, lt-ltb, le-ltb}
-use Rattle.numbers.specs.Got.{pick}
 use Rattle.numbers.specs.Names.{isDigit, nameByte}
 use Rattle.numbers.specs.Walk.{digitOf, walk}
 
@@ -50,7 +49,7 @@ module _ (s : List ℕ) (i run digits : ℕ) (inside : i < length s) where
       → walk run digits (drop i s) ≡ walk (run + 1) (digits + digitOf (getD s i 0)) (drop (i + 1) s)
   one-more e n l = other e ∙ simp (n, lt-ltb run 63 l)
 
-one-at-most : (t : Bool) → pick t 1 0 ≤ 1
+one-at-most : (t : Bool) → cond t 1 0 ≤ 1
 one-at-most true = omega arith
 one-at-most false = omega arith
 

@@ -3,7 +3,7 @@
 --     bad-prefix       a label that is too long or has a byte that no name has spoils the whole
 --     walked           the walk from a good prefix p is the rule over p and the rest; walk-rule: from the start
 use mathlib.Core.Path.{_≡_, refl, sym, ap, _∙_}
-use mathlib.Core.Bool.{Bool, true, false, _&&_, not}
+use mathlib.Core.Bool.{Bool, true, false, _&&_, not, cond}
 use mathlib.Core.List.{List, [], _∷_, _++_, append-assoc, append-nil}
 use mathlib.Core.Logic.{⊎-elim}
 use Prim.Native.Nat.{ℕ, suc, _+_, _≤_, _<_}
@@ -11,7 +11,6 @@ use native.Mathlib.Omega.{arith}
 use lib.Dec.{eqb, leb, ltb}
 use lib.ListN.{length, length-append}
 use borrow.Author.Tests.{ne-eqb, le-leb, lt-leb, lt-ltb, le-ltb, ltb-true, ltb-false}
-use Rattle.numbers.specs.Got.{pick}
 use Rattle.numbers.specs.Names.{every, dot, isDigit, nameByte, undotted, inFront, labels, last, labelOk, labelsOk, nameOk}
 use Rattle.numbers.specs.Walk.{digitOf, walk}
 use Rattle.numbers.proofs.Cases.{less-or-not}
@@ -20,7 +19,7 @@ use Rattle.numbers.proofs.Cases.{less-or-not}
 
 split : List ℕ → List ℕ → List (List ℕ)
 split p [] = p ∷ []
-split p (b ∷ s) = pick (eqb b dot) (p ∷ split [] s) (split (p ++ (b ∷ [])) s)
+split p (b ∷ s) = cond (eqb b dot) (p ∷ split [] s) (split (p ++ (b ∷ [])) s)
 
 -- p put in front of the first label
 inFrontAll : List ℕ → List (List ℕ) → List (List ℕ)
@@ -37,7 +36,7 @@ unfolding inFrontAll
 in-front-none [] h = absurd (omega arith)
 in-front-none (l ∷ ls) h = refl
 
-either-label : (t : Bool) (b : ℕ) (ls : List (List ℕ)) → 0 < length (pick t ([] ∷ ls) (inFront b ls))
+either-label : (t : Bool) (b : ℕ) (ls : List (List ℕ)) → 0 < length (cond t ([] ∷ ls) (inFront b ls))
 unfolding inFront
 either-label true b ls = omega arith
 either-label false b [] = omega arith
@@ -49,7 +48,7 @@ some-label [] = omega arith
 some-label (b ∷ s) = either-label (eqb b dot) b (labels s)
 
 split-step : (t : Bool) (p : List ℕ) (b : ℕ) (s : List ℕ) → split [] s ≡ labels s → split (p ++ (b ∷ [])) s ≡ inFrontAll (p ++ (b ∷ [])) (labels s)
-    → pick t (p ∷ split [] s) (split (p ++ (b ∷ [])) s) ≡ inFrontAll p (pick t ([] ∷ labels s) (inFront b (labels s)))
+    → cond t (p ∷ split [] s) (split (p ++ (b ∷ [])) s) ≡ inFrontAll p (cond t ([] ∷ labels s) (inFront b (labels s)))
 unfolding inFrontAll
 split-step true p b s here there = rw (append-nil, here) refl
 split-step false p b s here there = there ∙ in-front-all p b (labels s)
@@ -92,11 +91,11 @@ unfolding digitsIn digitOf
 digits-at-most [] = omega arith
 digits-at-most (b ∷ p) = one-more (isDigit b) (digits-at-most p)
   where
-    one-more : (t : Bool) → digitsIn p ≤ length p → pick t 1 0 + digitsIn p ≤ length (b ∷ p)
+    one-more : (t : Bool) → digitsIn p ≤ length p → cond t 1 0 + digitsIn p ≤ length (b ∷ p)
     one-more true h = omega arith
     one-more false h = omega arith
 
-digit-step : (t r : Bool) (d n : ℕ) → d ≤ n → ltb d n ≡ not r → ltb (pick t 1 0 + d) (suc n) ≡ not (t && r)
+digit-step : (t r : Bool) (d n : ℕ) → d ≤ n → ltb d n ≡ not r → ltb (cond t 1 0 + d) (suc n) ≡ not (t && r)
 digit-step true r d n h e =
     ⊎-elim (λ (l : d < n). lt-ltb (1 + d) (suc n) (omega arith) ∙ sym (lt-ltb d n l) ∙ e)
     (λ (l : n ≤ d). le-ltb (1 + d) (suc n) (omega arith) ∙ sym (le-ltb d n l) ∙ e)
@@ -145,7 +144,7 @@ bad-now : (p : List ℕ) → Bad p → labelOk p ≡ false
 unfolding Bad
 bad-now p bad = sym (ap labelOk (append-nil p)) ∙ bad []
 
-bad-step : (t : Bool) (p : List ℕ) (ls ms : List (List ℕ)) → labelOk p ≡ false → every labelOk ms ≡ false → every labelOk (pick t (p ∷ ls) ms) ≡ false
+bad-step : (t : Bool) (p : List ℕ) (ls ms : List (List ℕ)) → labelOk p ≡ false → every labelOk ms ≡ false → every labelOk (cond t (p ∷ ls) ms) ≡ false
 unfolding every
 bad-step true p ls ms h i = simp h
 bad-step false p ls ms h i = i
@@ -174,7 +173,7 @@ unfolding split
 some-split p [] = omega arith
 some-split p (b ∷ u) = either (eqb b dot) (some-split (p ++ (b ∷ [])) u)
   where
-    either : (t : Bool) → 0 < length (split (p ++ (b ∷ [])) u) → 0 < length (pick t (p ∷ split [] u) (split (p ++ (b ∷ [])) u))
+    either : (t : Bool) → 0 < length (split (p ++ (b ∷ [])) u) → 0 < length (cond t (p ∷ split [] u) (split (p ++ (b ∷ [])) u))
     either true h = omega arith
     either false h = h
 

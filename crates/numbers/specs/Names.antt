@@ -1,11 +1,10 @@
 -- Names (document 01, "Sizes"): letters, digits, `-`, `_` and `.`; labels of 1 to 63 bytes; one trailing dot is allowed; the last
 -- label isn't all digits.
 use Prim.Native.Nat.{ℕ}
-use mathlib.Core.Bool.{Bool, true, _&&_, _||_, not}
+use mathlib.Core.Bool.{Bool, true, _&&_, _||_, not, cond}
 use mathlib.Core.List.{List, [], _∷_}
 use lib.ListN.{length}
 use lib.Dec.{leb, eqb}
-use Rattle.numbers.specs.Got.{pick}
 
 -- every member passes the test
 unfoldable pub every : {A : Type 0} → (A → Bool) → List A → Bool
@@ -30,7 +29,7 @@ dot = 46
 -- the bytes without one trailing dot
 unfoldable pub undotted : List ℕ → List ℕ
 undotted [] = []
-undotted (b ∷ s) = pick (eqb b dot && eqb (length s) 0) [] (b ∷ undotted s)
+undotted (b ∷ s) = cond (eqb b dot && eqb (length s) 0) [] (b ∷ undotted s)
 
 -- a byte put in front of the first label
 unfoldable pub inFront : ℕ → List (List ℕ) → List (List ℕ)
@@ -40,11 +39,11 @@ inFront b (l ∷ ls) = (b ∷ l) ∷ ls
 -- the labels: what stands between the dots
 unfoldable pub labels : List ℕ → List (List ℕ)
 labels [] = [] ∷ []
-labels (b ∷ s) = pick (eqb b dot) ([] ∷ labels s) (inFront b (labels s))
+labels (b ∷ s) = cond (eqb b dot) ([] ∷ labels s) (inFront b (labels s))
 
 unfoldable pub last : List (List ℕ) → List ℕ
 last [] = []
-last (l ∷ ls) = pick (eqb (length ls) 0) l (last ls)
+last (l ∷ ls) = cond (eqb (length ls) 0) l (last ls)
 
 -- 1 to 63 bytes
 unfoldable pub labelOk : List ℕ → Bool
