@@ -1,4 +1,4 @@
-//! `deal`, over the archive of the crate `dealing`: compared with document 01's rule on random lists, then timed against plain Rust.
+//! `deal`, over the archive of the crate `dealing`: compared with document 01's rule on random lists; with `--speed`, timed against plain Rust.
 use std::collections::VecDeque;
 use std::hint::black_box;
 use std::time::Instant;
@@ -122,12 +122,19 @@ fn race(name: &str, groups: &[u8]) {
     println!("{name:>26} {ours:9.0} {queues:9.0} {arrays:9.0} {:9.2} {:9.2}", ours / queues, ours / arrays);
 }
 
-fn main() {
-    compare(200_000);
+fn speed() {
     println!("{:>26} {:>9} {:>9} {:>9} {:>9} {:>9}", "ns a call", "deal", "VecDeque", "arrays", "/VecDeque", "/arrays");
     for len in [208usize, 272] {
         race(&format!("{len}, one group"), &vec![0; len]);
         race(&format!("{len}, even, in turn"), &(0..len).map(|i| (i % 8) as u8).collect::<Vec<_>>());
         race(&format!("{len}, even, in blocks"), &(0..len).map(|i| (i * 8 / len) as u8).collect::<Vec<_>>());
+    }
+}
+
+fn main() {
+    if std::env::args().any(|word| word == "--speed") {
+        speed();
+    } else {
+        compare(200_000);
     }
 }
