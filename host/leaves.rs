@@ -3,7 +3,7 @@
 //! `leaves [SEED]` compares them on boundary and random inputs, counts what it compared, and ends with 1 at the first difference.
 //! `leaves --speed` times a delay call against the same in Rust.
 
-use std::fmt::{Arguments, Debug};
+use std::fmt::{Arguments, Debug, Formatter};
 use std::hint::black_box;
 use std::process::exit;
 use std::time::Instant;
@@ -34,10 +34,21 @@ const ROOM: usize = 128;
 const GUARD: usize = 16;
 
 /// A lent buffer of `len` bytes with the memory around it.
-#[derive(Clone, Copy, Debug, PartialEq)]
+#[derive(Clone, Copy, PartialEq)]
 struct Buffer {
     memory: [u8; ROOM + 2 * GUARD],
     len: usize,
+}
+
+/// All the memory, the lent part between bars.
+impl Debug for Buffer {
+    fn fmt(&self, f: &mut Formatter) -> std::fmt::Result {
+        for (k, b) in self.memory.iter().enumerate() {
+            let bar = (k == GUARD) as usize + (k == GUARD + self.len) as usize;
+            write!(f, "{}{b:02x}", &"||"[..bar])?;
+        }
+        Ok(())
+    }
 }
 
 impl Buffer {
@@ -321,8 +332,8 @@ impl Tally {
 
     fn compare<A: Debug + PartialEq>(&mut self, input: Arguments, rattle: A, rust: A, outcome: usize) {
         if rattle != rust {
-            println!("leaves: {} differ\n  input:  {input}\n  Rattle: {rattle:x?}\n  Rust:   {rust:x?}", self.kind);
-            println!("(numbers in base 16)");
+            println!("leaves: {}: the answers differ (numbers in base 16)", self.kind);
+            println!("  input:  {input}\n  Rattle: {rattle:x?}\n  Rust:   {rust:x?}");
             exit(1);
         }
         self.met[outcome] += 1;
@@ -589,14 +600,14 @@ fn random_name(random: &mut Random) -> Vec<u8> {
 
 fn compare_name(t: &mut Tally, s: &[u8]) {
     let rust = u8::from(rust::name_ok(s));
-    t.compare(format_args!("{:?}, {s:02x?}", String::from_utf8_lossy(s)), rattle::name_ok(s), rust, rust as usize);
+    t.compare(format_args!("\"{}\"", s.escape_ascii()), rattle::name_ok(s), rust, rust as usize);
 }
 
 /// Every slice of at most `left` bytes of an alphabet with each class of byte, and those beside the digits and letters.
 fn name_short(t: &mut Tally, name: &mut Vec<u8>, left: usize) {
     compare_name(t, name);
     if left > 0 {
-        for b in b"..09aZ-_/:" {
+        for b in b".09aZ-_/:" {
             name.push(*b);
             name_short(t, name, left - 1);
             name.pop();
