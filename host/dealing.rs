@@ -5,7 +5,7 @@ use std::time::Instant;
 
 const LONGEST: usize = 272;
 
-unsafe extern "C" {
+extern "C" {
     fn deal_positions(groups: *const u8, len: usize, out: *mut u16, room: usize) -> u64;
 }
 
@@ -100,7 +100,10 @@ fn compare(lists: u64) {
         seen[expected as usize] += 1;
     }
     assert!(seen.iter().all(|&n| n > 0));
-    println!("{lists} random lists agree: {} dealt; {} too long, {} another room, {} no group", seen[0], seen[1], seen[2], seen[3]);
+    println!(
+        "{lists} random lists agree: {} dealt; {} too long, {} another room, {} no group",
+        seen[0], seen[1], seen[2], seen[3]
+    );
 }
 
 /// Nanoseconds for one call: the least of many batches.
