@@ -4,6 +4,7 @@ use std::hint::black_box;
 use std::time::Instant;
 
 const LONGEST: usize = 272;
+const GUARD: usize = 16;
 
 extern "C" {
     fn deal_positions(groups: *const u8, len: usize, out: *mut u16, room: usize) -> u64;
@@ -89,13 +90,14 @@ fn compare(lists: u64) {
             groups[random.below(len as u64) as usize] = (8 + random.below(248)) as u8;
         }
         let room = if random.below(8) == 0 { random.below(LONGEST as u64 + 9) as usize } else { len };
-        let mut out: Vec<u16> = (0..room).map(|_| random.below(1 << 16) as u16).collect();
+        // The room lies inside a larger one, so that a store outside it is seen.
+        let mut out: Vec<u16> = (0..room + 2 * GUARD).map(|_| random.below(1 << 16) as u16).collect();
         let mut wanted = out.clone();
         let expected = answer(&groups, room);
         if expected == 0 {
-            by_queues(&groups, &mut wanted);
+            by_queues(&groups, &mut wanted[GUARD..GUARD + room]);
         }
-        assert_eq!(deal(&groups, &mut out), expected, "{groups:?} {room}");
+        assert_eq!(deal(&groups, &mut out[GUARD..GUARD + room]), expected, "{groups:?} {room}");
         assert_eq!(out, wanted, "{groups:?}");
         seen[expected as usize] += 1;
     }

@@ -1,5 +1,6 @@
 pub mod Lists
 pub mod Laws
+pub mod Promise
 pub mod Rising
 pub mod Answers
 mod Queued

@@ -8,7 +8,7 @@ ghost use Rattle.deal.specs.Interleaving.{order};
 ghost use Rattle.deal.specs.Answer.{dealingNumber, grouped, dealAnswer, dealOut};
 ghost use Rattle.deal.specs.Queues.{Held, Active, members};
 
-// A listing has at most this many endpoints.
+// The longest listing: four services of 48 endpoints, 64 of alternative services and 16 of the origin.
 const LONGEST: usize = 272;
 
 pub enum Dealing {

@@ -1,5 +1,7 @@
 -- The starred examples hold of the definitions: both lists compute to the same.
 use mathlib.Core.Path.{refl}
+use Prim.Native.Nat.{max}
+use native.Mathlib.Nat.{pow-zero}
 use Rattle.numbers.specs.Numbers.{below, groups, readNumber, shortest, numberBytes}
 use Rattle.deal.specs.Interleaving.{groupOf, queue, nth, round, interleave}
 use Rattle.pacing.specs.Pacing.{powerOf, factorOf, productOf}
@@ -7,4 +9,4 @@ use Rattle.known.specs.Known.{Known, given, said}
 
 pub known : Known
 unfolding given said below groups readNumber shortest numberBytes powerOf factorOf productOf groupOf queue nth round interleave
-known = refl
+known m = rw (pow-zero (max 1 m)) refl

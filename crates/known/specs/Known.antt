@@ -36,9 +36,10 @@ d = record { rank = 2; family = 4; letter = 0xD }
 abbrev pub preferringSix : Sample → ℕ
 preferringSix e = groupOf (e .rank) (cond (eqb (e .family) 6) 0 1)
 
-unfoldable pub given : List (List ℕ)
-given =
-    (factorOf 2 0 ∷ factorOf 2 1 ∷ [])
+-- "0 or 1 in progress: factor 1" is said of any multiplier m
+unfoldable pub given : (m : ℕ) → List (List ℕ)
+given m =
+    (factorOf m 0 ∷ factorOf m 1 ∷ [])
     ∷ (factorOf 2 32 ∷ [])
     ∷ (factorOf 3 21 ∷ factorOf 3 22 ∷ [])
     ∷ (factorOf 65_535 3 ∷ factorOf 65_536 3 ∷ [])
@@ -46,6 +47,7 @@ given =
     ∷ (productOf 4_294_967_297 4_294_967_295 ∷ [])
     ∷ (productOf 8_589_934_592 2_147_483_648 ∷ [])
     ∷ numberBytes 443
+    ∷ told (readNumber (0xBB ∷ 0x03 ∷ []) 0)
     ∷ told (readNumber (0x80 ∷ 0x00 ∷ []) 0)
     ∷ told (readNumber (0x80 ∷ []) 0)
     ∷ map (λ e. e .letter) (interleave preferringSix (a ∷ b ∷ c ∷ d ∷ []))
@@ -61,6 +63,7 @@ said =
     ∷ (18_446_744_073_709_551_615 ∷ [])
     ∷ (18_446_744_073_709_551_615 ∷ [])
     ∷ (0xBB ∷ 0x03 ∷ [])
+    ∷ (0 ∷ 443 ∷ 2 ∷ [])
     ∷ (2 ∷ [])
     ∷ (1 ∷ [])
     ∷ (0xA ∷ 0xC ∷ 0xD ∷ 0xB ∷ [])
@@ -68,4 +71,4 @@ said =
 
 -- the single statement, proved in proofs/Examples.antt
 abbrev pub Known : Type 0
-Known = given ≡ said
+Known = (m : ℕ) → given m ≡ said

@@ -6,6 +6,13 @@ use mathlib.Core.List.{List, [], _∷_}
 use lib.ListN.{length}
 use lib.Dec.{leb, eqb}
 
+-- "name 1 to 253 bytes, origin name at most 239": the limits under which a name is read
+abbrev pub nameLimit : ℕ
+nameLimit = 253
+
+abbrev pub originLimit : ℕ
+originLimit = 239
+
 -- every member passes the test
 unfoldable pub every : {A : Type 0} → (A → Bool) → List A → Bool
 every p [] = true

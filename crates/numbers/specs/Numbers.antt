@@ -14,7 +14,7 @@ cut = refused 1
 abbrev pub bad-number : {A : Type 0} → Got A
 bad-number = refused 2
 
--- v, in w values, below what the groups that follow say; these are not 0, or the form is not the shortest
+-- v + w * u, where u is what the later groups say; with u = 0 the form is not the shortest
 unfoldable pub below : ℕ → ℕ → Got ℕ → Got ℕ
 below v w (got u next) = cond (eqb u 0) bad-number (got (v + w * u) next)
 below v w (refused n) = refused n

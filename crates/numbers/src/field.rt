@@ -13,6 +13,11 @@ use super::number::read_number;
 use super::put::has_room;
 use super::refusal::Refusal;
 
+// The longest name, and the longest origin name: the prefix of its HTTPS name, `_65535._https.`, adds 14.
+pub const NAME_LIMIT: u64 = 253;
+
+pub const ORIGIN_LIMIT: u64 = 239;
+
 // Some bytes of the input: where they start and how many they are.
 pub struct Span {
     pub start: usize,
@@ -88,20 +93,16 @@ fn name_between(s: &[u8], start: usize, end: usize) -> bool
 fn read_named(s: &[u8], start: usize, len: usize) -> SpanRead
     ensures { λ r. ⌜ spanShown r ≡ named (now (s .entry)) len start ⌝ }
 {
-    if !has_room(s.len(), start, len) {
-        return SpanRead::Refused(Refusal::Cut);
-    }
-    let next = start + len;
-    if name_between(s, start, next) {
-        SpanRead::Bytes(
-            Span {
-                start: start,
-                len: len,
-            },
-            next,
-        )
-    } else {
-        SpanRead::Refused(Refusal::BadName)
+    let r = read_bytes(s, start, len);
+    match r {
+        SpanRead::Refused(e) => SpanRead::Refused(e),
+        SpanRead::Bytes(name, next) => {
+            if name_between(s, start, next) {
+                SpanRead::Bytes(name, next)
+            } else {
+                SpanRead::Refused(Refusal::BadName)
+            }
+        }
     }
 }
 

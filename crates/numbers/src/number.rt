@@ -6,6 +6,7 @@ ghost use Rattle.numbers.specs.Numbers.{readNumber, numberBytes};
 ghost use Rattle.numbers.specs.Put.{putAnswer, putBytes};
 ghost use Rattle.numbers.specs.Shown.{readShown, wroteShown};
 use super::put::Wrote;
+use super::put::has_room;
 use super::refusal::Refusal;
 
 pub enum Read {
@@ -79,7 +80,7 @@ pub fn write_number(out: &mut [u8], at: usize, n: u64) -> Wrote
     ensures bytes { λ _. ⌜ now (out .exit) ≡ putBytes (now (out .entry)) at (numberBytes n) ⌝ }
 {
     let need = number_len(n);
-    if !super::put::has_room(out.len(), at, need) {
+    if !has_room(out.len(), at, need) {
         return Wrote::Refused(Refusal::NoRoom);
     }
     let mut v = n;

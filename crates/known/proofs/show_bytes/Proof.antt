@@ -1,3 +1,4 @@
+-- `known::show_bytes` meets its contract.
 use Prim.Native.Nat.{_-_, _≤_}
 use lib.ListN.{length}
 use borrow.Author.Needs.{needs}

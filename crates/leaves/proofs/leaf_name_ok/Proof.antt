@@ -1,3 +1,4 @@
+-- `leaves::leaf_name_ok` meets its contract.
 use mathlib.Core.Path.{sym, ap, _∙_}
 use Rattle.leaves.specs.Entries.{flagOf}
 use borrow.Author.Needs.{needs}

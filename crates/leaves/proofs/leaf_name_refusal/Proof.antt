@@ -1,3 +1,4 @@
+-- `leaves::leaf_name_refusal` meets its contract.
 use mathlib.Core.Path.{ap, _∙_}
 use Rattle.leaves.specs.Entries.{numberOf}
 use borrow.Author.Needs.{needs}

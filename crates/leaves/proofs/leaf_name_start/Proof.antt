@@ -1,3 +1,4 @@
+-- `leaves::leaf_name_start` meets its contract.
 use mathlib.Core.Path.{ap, _∙_}
 use Rattle.leaves.specs.Entries.{startOf}
 use borrow.Author.Needs.{needs}

@@ -1,3 +1,4 @@
+-- `leaves::leaf_next_id` meets its contract.
 use mathlib.Core.Path.{ap}
 use Rattle.pacing.specs.declared.id.Issued.{Issued}
 use borrow.Author.Needs.{needs}

@@ -1,3 +1,4 @@
+-- `leaves::leaf_number_next` meets its contract.
 use mathlib.Core.Path.{ap, _∙_}
 use Rattle.leaves.specs.Entries.{placeOf}
 use borrow.Author.Needs.{needs}

@@ -1,3 +1,4 @@
+-- `leaves::leaf_number_value` meets its contract.
 use mathlib.Core.Path.{ap, _∙_}
 use Rattle.leaves.specs.Entries.{valueOf}
 use borrow.Author.Needs.{needs}

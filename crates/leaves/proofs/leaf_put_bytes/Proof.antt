@@ -1,3 +1,4 @@
+-- `leaves::leaf_put_bytes` meets its contract.
 use mathlib.Core.Path.{ap, _∙_}
 use Rattle.leaves.specs.Entries.{putNumber}
 use borrow.Author.Needs.{needs}

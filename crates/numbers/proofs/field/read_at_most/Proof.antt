@@ -1,3 +1,4 @@
+-- `numbers::field::read_at_most` meets its contract.
 use mathlib.Core.Path.{sym, ap, _∙_}
 use Rattle.numbers.specs.Fields.{atMost}
 use Rattle.numbers.specs.Shown.{readShown}

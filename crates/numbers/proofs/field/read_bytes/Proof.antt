@@ -1,3 +1,4 @@
+-- `numbers::field::read_bytes` meets its contract.
 use Prim.Native.Nat.{_+_, _≤_}
 use lib.ListN.{length}
 use native.Mathlib.Omega.{arith}

@@ -1,3 +1,4 @@
+-- `numbers::field::read_name` meets its contract.
 use mathlib.Core.Path.{sym, ap, _∙_}
 use Rattle.numbers.specs.Fields.{nameAt}
 use Rattle.numbers.specs.Shown.{readShown}

@@ -1,44 +1,46 @@
-use mathlib.Core.Path.{_≡_, sym, _∙_}
-use Prim.Native.Nat.{_+_, _≤_}
-use native.Mathlib.Nat.{add-sub-cancel-left}
-use native.Mathlib.Omega.{arith}
-use lib.ListN.{length, take, drop}
-use Rattle.numbers.specs.Fields.{named}
-use Rattle.numbers.specs.Names.{nameOk}
-use Rattle.numbers.proofs.PutLaws.{no-space, space}
-use Rattle.numbers.proofs.Steps.{stopped, short, is-name, no-name}
+-- `numbers::field::read_named` meets its contract.
+use mathlib.Core.Path.{sym, ap, _∙_}
 use borrow.Author.Needs.{needs}
+use Rattle.numbers.specs.Fields.{named}
+use Rattle.numbers.specs.Shown.{spanShown}
+use Rattle.numbers.proofs.Steps.{stopped, between, is-name, no-name}
 use Rattle.numbers.proofs.field.read_named.Statement.{statement}
 use Rattle.numbers.proofs.field.read_named.Tie as tie
 
-has-room-requires : tie.Need-has-room-requires
-has-room-requires c κs = search needs
+read-bytes-requires : tie.Need-read-bytes-requires
+read-bytes-requires c κs = search needs
 
--- past the test the bytes are there
-there : (c : tie.Else1) → let a = c .before .before .before .args in a .start + a .len ≤ length (a .s .now)
-there c = space _ _ _ (c .before .has-room .ensures) (c .if1 .left)
+enum-known-r : tie.Need-enum-known-r
+enum-known-r c = search needs
 
--- what the name rule said is of these bytes
-named-by : (c : tie.After-name-between) → let a = c .before .before .before .before .args in c .name-between .result ≡ nameOk (take (a .len) (drop (a .start) (a .s .now)))
-named-by c = rw add-sub-cancel-left at (c .name-between .ensures)
+enum-known-r-2 : tie.Need-enum-known-r-2
+enum-known-r-2 c = search needs
+
+name-between-requires : tie.Need-name-between-requires
+name-between-requires c κs = between _ _ _ (c .before .r2 .given .1) (c .before .before .before .read-bytes .ensures)
 
 returns : tie.Need-returns
 unfolding named
-returns c = stopped _ _ (short _ _ _ (no-space _ _ _ (c .before .has-room .ensures) (c .if1 .taken)))
-
-add-next : tie.Need-add-next
-add-next c = omega (arith, there c)
-
-name-between-requires : tie.Need-name-between-requires
-name-between-requires c κs = (omega arith, there c)
+returns c = stopped _ _ (sym (ap spanShown (c .before .r .given .1)) ∙ c .before .before .before .read-bytes .ensures)
 
 returns-2 : tie.Need-returns-2
-returns-2 c = is-name _ _ _ (there (c .before .before)) (sym (named-by (c .before)) ∙ c .if2 .taken)
+returns-2 c =
+    let m = c .before .before .before in
+    is-name _ _ _ (m .r2 .given .1) (m .before .before .read-bytes .ensures) (c .before .name-between .ensures) (c .if1 .taken)
 
 returns-3 : tie.Need-returns-3
-returns-3 c = no-name _ _ _ (there (c .before .before)) (sym (named-by (c .before)) ∙ c .if2 .left)
+returns-3 c =
+    let m = c .before .before .before in
+    no-name _ _ _ (m .r2 .given .1) (m .before .before .read-bytes .ensures) (c .before .name-between .ensures) (c .if1 .left)
 
 pub read-named-spec : {M : Type 1} → statement M
 read-named-spec =
     tie.close
-    (tie.spec has-room-requires returns add-next name-between-requires returns-2 returns-3)
+    (tie.spec
+    read-bytes-requires
+    enum-known-r
+    enum-known-r-2
+    name-between-requires
+    returns
+    returns-2
+    returns-3)

@@ -1,3 +1,4 @@
+-- `numbers::name::digit_count` meets its contract.
 use mathlib.Core.Path.{sym, _∙_}
 use Rattle.numbers.specs.Walk.{digitOf}
 use borrow.Author.Needs.{needs}

@@ -1,3 +1,4 @@
+-- `numbers::name::in_range` meets its contract.
 use mathlib.Core.Path.{refl}
 use borrow.Author.Tests.{le-leb, lt-leb}
 use Rattle.numbers.specs.Names.{between}

@@ -1,3 +1,4 @@
+-- `numbers::name::is_digit` meets its contract.
 use Rattle.numbers.specs.Names.{isDigit}
 use borrow.Author.Needs.{needs}
 use Rattle.numbers.proofs.name.is_digit.Statement.{statement}

@@ -1,3 +1,4 @@
+-- `numbers::name::name_byte` meets its contract.
 use mathlib.Core.Path.{_≡_, refl}
 use mathlib.Core.Bool.{Bool, _||_}
 use borrow.Author.Tests.{eq-eqb, ne-eqb}

@@ -1,3 +1,4 @@
+-- `numbers::number::add_group` meets its contract.
 use native.Mathlib.Omega.{arith}
 use Rattle.numbers.proofs.BitLaws.{low-seven, above}
 use borrow.Author.Needs.{needs}

@@ -1,3 +1,4 @@
+-- `numbers::number::group_of` meets its contract.
 use native.Mathlib.Omega.{arith}
 use Rattle.numbers.proofs.BitLaws.{low-seven, high-bit}
 use Rattle.numbers.proofs.number.group_of.Statement.{statement}

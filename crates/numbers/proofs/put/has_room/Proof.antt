@@ -1,3 +1,4 @@
+-- `numbers::put::has_room` meets its contract.
 use mathlib.Core.Path.{sym}
 use Prim.Native.Nat.{_+_, _<_}
 use native.Mathlib.Omega.{arith}

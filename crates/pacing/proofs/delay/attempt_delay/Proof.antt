@@ -1,3 +1,4 @@
+-- `pacing::delay::attempt_delay` meets its contract.
 use Rattle.pacing.specs.Pacing.{delayOf}
 use borrow.Author.Needs.{needs}
 use Rattle.pacing.proofs.delay.attempt_delay.Statement.{statement}

@@ -1,3 +1,4 @@
+-- `pacing::delay::factor` meets its contract.
 use mathlib.Core.Path.{_≡_}
 use mathlib.Core.Logic.{⊎-elim}
 use Prim.Native.Nat.{_-_}

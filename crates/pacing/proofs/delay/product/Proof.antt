@@ -1,3 +1,4 @@
+-- `pacing::delay::product` meets its contract.
 use mathlib.Core.Path.{sym}
 use native.Mathlib.Omega.{arith}
 use native.Mathlib.Nat.{min-eq-right}

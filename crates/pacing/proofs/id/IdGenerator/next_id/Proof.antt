@@ -1,3 +1,4 @@
+-- `pacing::id::IdGenerator::next_id` meets its contract.
 use mathlib.Core.Path.{refl}
 use borrow.Author.Needs.{needs}
 use Rattle.pacing.proofs.id.IdGenerator.next_id.Statement.{statement}
