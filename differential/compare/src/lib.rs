@@ -1,0 +1,13 @@
+//! The std-only half of the judge: histories, their bytes, and the comparison of answers.
+
+pub mod book;
+pub mod damage;
+pub mod play;
+pub mod read;
+pub mod report;
+pub mod rng;
+pub mod shrink;
+pub mod subject;
+pub mod tally;
+pub mod words;
+pub mod write;
