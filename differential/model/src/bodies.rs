@@ -167,12 +167,9 @@ impl<'a> Reader<'a> {
     /// "name length, name"
     fn name(&mut self, most: u64) -> Result<Bytes, u8> {
         let length = self.sized(most)?;
-        // "BadName: name rule broken, length 0 included"
-        if length == 0 {
-            return Err(BAD_NAME);
-        }
         // "a name cut short is Cut"
         let name = self.bytes(length)?;
+        // "BadName: name rule broken, length 0 included"
         if !name_ok(name) {
             return Err(BAD_NAME);
         }
@@ -275,6 +272,21 @@ impl<'a> Reader<'a> {
         Ok(self.bytes(length)?.into())
     }
 
+    /// "Input bodies: kind, id, then: 1 AAAA, 2 A, 3 HTTPS ... 4 success, 5
+    /// failure: nothing more. 6 ECH retry": what follows the kind.
+    fn input(&mut self, kind: u64) -> Result<Input, u8> {
+        let id = self.number()?;
+        let input = match kind {
+            1 => of_answer(id, Type::Aaaa, self.answer(Type::Aaaa)?),
+            2 => of_answer(id, Type::A, self.answer(Type::A)?),
+            3 => of_answer(id, Type::Https, self.answer(Type::Https)?),
+            4 => of_result(id, Outcome::Success),
+            5 => of_result(id, Outcome::Failure),
+            _ => of_result(id, Outcome::EchRetry(self.ech_retry()?)),
+        };
+        self.end(input)
+    }
+
     /// "Trailing: bytes after the last field"
     fn end<T>(&self, read: T) -> Result<T, u8> {
         if self.at < self.body.len() {
@@ -340,27 +352,17 @@ fn mode(number: u64) -> Mode {
 /// only, calls for output."
 pub fn event(body: &[u8]) -> Result<Event, u8> {
     let mut r = Reader::new(body);
-    if r.ranged(1, 7)? == 7 {
-        return r.end(Event::Call);
+    match r.ranged(1, 7)? {
+        7 => r.end(Event::Call),
+        kind => Ok(Event::Input(r.input(kind)?)),
     }
-    Ok(Event::Input(input(body)?))
 }
 
-/// An input body, or its refusal 1 to 6. "Input bodies: kind, id, then: 1 AAAA,
-/// 2 A, 3 HTTPS ... 4 success, 5 failure: nothing more. 6 ECH retry".
+/// An input body off the tape, or its refusal 1 to 6.
 pub fn input(body: &[u8]) -> Result<Input, u8> {
     let mut r = Reader::new(body);
     let kind = r.ranged(1, 6)?;
-    let id = r.number()?;
-    let input = match kind {
-        1 => of_answer(id, Type::Aaaa, r.answer(Type::Aaaa)?),
-        2 => of_answer(id, Type::A, r.answer(Type::A)?),
-        3 => of_answer(id, Type::Https, r.answer(Type::Https)?),
-        4 => of_result(id, Outcome::Success),
-        5 => of_result(id, Outcome::Failure),
-        _ => of_result(id, Outcome::EchRetry(r.ech_retry()?)),
-    };
-    r.end(input)
+    r.input(kind)
 }
 
 fn of_answer(id: u64, kind: Type, (stale, answer): (bool, Answer)) -> Input {

@@ -18,7 +18,8 @@ pub fn endpoints(m: &State) -> Vec<Endpoint> {
     }
     // "Unless so, then alternative services and origin"
     if !m.any_ech() {
-        let mut last = of_alternatives(m);
+        let mut last = Vec::new();
+        last.extend(of_alternatives(m));
         last.extend(of_origin(m));
         // "together, interleaved"
         listed.extend(interleaved(last, prefers_v6(m)));
@@ -28,7 +29,7 @@ pub fn endpoints(m: &State) -> Vec<Endpoint> {
 
 /// Part 3: "The result is a permutation, strictly rising by (place in group,
 /// rank, family)."
-pub fn interleaved(endpoints: Vec<Endpoint>, prefer_v6: bool) -> Vec<Endpoint> {
+fn interleaved(endpoints: Vec<Endpoint>, prefer_v6: bool) -> Vec<Endpoint> {
     let mut counts = [0; 8];
     let mut keyed = Vec::new();
     for endpoint in endpoints {

@@ -9,8 +9,8 @@ use crate::state::{elapsed, Held, Query, Refresh, State};
 /// Whether endpoints may be attempted at all.
 pub fn may_start(m: &State, now: u64) -> bool {
     let origin_is_address = m.origin_name().is_none();
-    let without_dns = m.configuration.mode == Mode::Name;
-    origin_is_address || without_dns || without_timeout(m) || with_timeout(m, now)
+    let mode_is_name = m.configuration.mode == Mode::Name;
+    origin_is_address || mode_is_name || without_timeout(m) || with_timeout(m, now)
 }
 
 /// `move_on_without_timeout`
@@ -19,12 +19,18 @@ fn without_timeout(m: &State) -> bool {
     if m.configuration.mode == Mode::NameWithHttpsRr {
         return answered(m, Type::Https);
     }
-    some_address(m) && preferred_settled(m) && answered(m, Type::Https)
+    let address = some_address(m);
+    let preferred = preferred_settled(m);
+    let https = answered(m, Type::Https);
+    address && preferred && https
 }
 
 /// `wait_for_preferred_address` off drops this test only.
 fn preferred_settled(m: &State) -> bool {
-    !m.configuration.wait || answered(m, preferred_type(m)) || preferred_hint(m)
+    let needed = m.configuration.wait;
+    let answered = answered(m, preferred_type(m));
+    let hinted = preferred_hint(m);
+    !needed || answered || hinted
 }
 
 /// `move_on_with_timeout`
@@ -91,7 +97,7 @@ fn wanted(m: &State) -> Vec<(Bytes, Type)> {
             wanted.extend(m.usable_services().flat_map(|service| both(m, &service.name)));
             wanted.extend(alternative_names(m).flat_map(|name| both(m, name)));
         }
-        // "`NameWithHttpsRr`" asks for the HTTPS record only.
+        // `NameWithHttpsRr` asks for the HTTPS record only, `Name` for none.
         Mode::NameWithHttpsRr => wanted.extend(origin_https(m)),
         Mode::Name => {}
     }

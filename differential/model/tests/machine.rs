@@ -301,6 +301,34 @@ fn pacing_from_the_latest_attempt() {
 }
 
 #[test]
+fn the_attempt_timer_comes_before_the_resolution_timer() {
+    let mut m = Configuration::default().machine();
+    ask_three(&mut m, "a.b");
+    feed(&mut m, 0, &https(0, 0, &[Service { v6: vec![1], ..service("a.b") }]));
+    assert_eq!(calls(&mut m, 0), [attempt(3, 1, to_v6(1, 443)), timer(250 * MS)]);
+    feed(&mut m, 0, &failure(3));
+    assert_eq!(m.output(0), timer(50 * MS));
+}
+
+#[test]
+fn another_port_is_another_endpoint() {
+    let configuration = Configuration {
+        origin: v4_host(1),
+        versions: H2,
+        delay: 0,
+        alternatives: vec![
+            alternative(no_host(), Some(8443), 1),
+            alternative(no_host(), Some(443), 1),
+        ],
+        ..Configuration::default()
+    };
+    let mut m = configuration.machine();
+    let attempts = [attempt(0, 2, to_v4(1, 8443)), attempt(1, 2, to_v4(1, 443))];
+    assert_eq!(calls(&mut m, 0), attempts);
+    assert_eq!(m.output(0), WAITING);
+}
+
+#[test]
 fn a_clock_gone_back_waits() {
     let mut m = Configuration { delay: 10, ..three_endpoints() }.machine();
     assert_eq!(m.output(100), attempt(0, 2, to_v4(2, 443)));
@@ -450,6 +478,20 @@ fn ech_retries_in_order_of_arrival_and_once() {
     feed(&mut m, 0, &ech_retry(4, b"G"));
     feed(&mut m, 0, &failure(5));
     assert_eq!(m.output(250 * MS), FAILED_CONNECTION);
+}
+
+#[test]
+fn an_ech_retry_comes_before_a_listed_endpoint() {
+    let configuration = Configuration { preference: ONLY_V4, ..Configuration::default() };
+    let mut m = configuration.machine();
+    assert_eq!(calls(&mut m, 0), [query(0, HTTPS, "a.b"), query(1, A, "a.b")]);
+    let with = Service { ech: Some(b"E".to_vec()), v4: vec![1, 2], ..service("a.b") };
+    feed(&mut m, 0, &https(0, 0, &[with]));
+    assert_eq!(m.output(0), attempt_ech(2, 0, 1, to_v4(1, 443), b"E"));
+    feed(&mut m, 0, &ech_retry(2, b"F"));
+    assert_eq!(m.output(0), attempt_ech(3, 1, 1, to_v4(1, 443), b"F"));
+    feed(&mut m, 0, &failure(3));
+    assert_eq!(m.output(0), attempt_ech(4, 0, 1, to_v4(2, 443), b"E"));
 }
 
 #[test]
