@@ -1,8 +1,6 @@
 //! Demand 3 and demand 1's "changes no state" on random histories.
 
-mod build;
-
-use build::*;
+use crate::build::*;
 use model::{read_number, write_number, Machine};
 
 /// xorshift64*

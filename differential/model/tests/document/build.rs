@@ -1,5 +1,4 @@
 //! Bodies, tapes and expected answers for the tests, field by field.
-#![allow(dead_code)]
 
 use model::{write_number, Machine};
 

@@ -1,8 +1,6 @@
 //! The program, over one tape and over many.
 
-mod build;
-
-use build::*;
+use crate::build::*;
 use std::io::Write;
 use std::process::{Command, Output, Stdio};
 

@@ -1,8 +1,6 @@
 //! Parts 5 to 7: starting, output, input.
 
-mod build;
-
-use build::*;
+use crate::build::*;
 use model::Machine;
 
 /// The answers of calls at one moment.

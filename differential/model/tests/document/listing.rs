@@ -1,8 +1,6 @@
 //! Parts 3 and 4: the present listing.
 
-mod build;
-
-use build::*;
+use crate::build::*;
 use model::{listing, Machine};
 
 fn plain(rank: u8, target: Vec<u8>) -> Vec<u8> {

@@ -1,8 +1,6 @@
 //! Replay, its places and its room; tape check.
 
-mod build;
-
-use build::*;
+use crate::build::*;
 use model::{replay, tape_check, Replayed};
 
 const EXAMPLE: [u8; 35] = [

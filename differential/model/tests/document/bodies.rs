@@ -1,8 +1,6 @@
 //! Refusals 1 to 6: each field of a configuration and of an input, in order.
 
-mod build;
-
-use build::*;
+use crate::build::*;
 use model::Machine;
 
 fn refusal(configuration: &[u8]) -> u8 {
