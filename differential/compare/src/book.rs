@@ -11,14 +11,17 @@ pub enum Ending {
     Cancelled,
 }
 
+#[derive(Clone)]
 pub struct Query {
     pub id: u64,
     /// 0 HTTPS, 1 AAAA, 2 A.
     pub kind: u64,
+    pub name: Vec<u8>,
     pub refresh: bool,
     pub answered: bool,
 }
 
+#[derive(Clone)]
 pub struct Attempt {
     pub id: u64,
     pub retry: bool,
@@ -28,7 +31,7 @@ pub struct Attempt {
     pub endpoint: Vec<u8>,
 }
 
-#[derive(Default)]
+#[derive(Clone, Default)]
 pub struct Book {
     pub queries: Vec<Query>,
     pub attempts: Vec<Attempt>,
@@ -140,9 +143,15 @@ impl Book {
 
     fn called(&mut self, heard: &Answer, bytes: &[u8]) {
         match heard {
-            Answer::Query { id, kind, allow_stale, .. } => {
+            Answer::Query { id, kind, allow_stale, name } => {
                 let refresh = *allow_stale == 0;
-                self.queries.push(Query { id: *id, kind: *kind, refresh, answered: false });
+                self.queries.push(Query {
+                    id: *id,
+                    kind: *kind,
+                    name: name.clone(),
+                    refresh,
+                    answered: false,
+                });
                 if refresh {
                     self.depth.refreshes += 1;
                 } else {

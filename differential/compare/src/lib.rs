@@ -2,11 +2,15 @@
 
 pub mod book;
 pub mod damage;
+pub mod demand;
+pub mod directed;
 pub mod play;
+pub mod plug;
 pub mod read;
 pub mod report;
 pub mod rng;
 pub mod shrink;
+pub mod stored;
 pub mod subject;
 pub mod tally;
 pub mod words;

@@ -33,12 +33,9 @@ pub fn ask(referee: &mut impl Referee, moment: u64, body: &[u8]) -> Vec<u8> {
     if body == [7] {
         return referee.output(moment);
     }
+    let number = referee.input(moment, body);
     // Kind 7 is sound at the head of a tape's body, so what follows it is Trailing.
-    let number = if body.first() == Some(&7) {
-        6
-    } else {
-        referee.input(moment, body)
-    };
+    let number = if body.first() == Some(&7) { 6 } else { number };
     vec![8, number]
 }
 
@@ -186,9 +183,10 @@ impl Player {
         }
     }
 
-    /// No reading precedes an earlier one: what demand 3 asks of its histories.
+    /// No reading precedes an earlier one, as demand 3 asks; and the book follows every input.
     pub fn onward(&mut self) {
         self.profile.clock = Clock::On;
+        self.profile.raw = 0;
         self.now = self.rng.pick(&[0, 0, 7, 1_000_000_000]);
     }
 

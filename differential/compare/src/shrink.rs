@@ -226,3 +226,24 @@ fn weight(c: &Configuration) -> u64 {
         + delay(c.attempt, 250_000_000)
         + delay(c.resolution, 50_000_000)
 }
+
+/// The smallest tape found that still `fails`, by taking bytes away and making them 0.
+pub fn bytes(tape: &[u8], fails: &mut dyn FnMut(&[u8]) -> bool) -> Vec<u8> {
+    let mut best = tape.to_vec();
+    let mut tried = 0;
+    let mut size = best.len().next_power_of_two();
+    while size > 0 {
+        let mut at = 0;
+        while at < best.len() && tried < 3000 {
+            let mut candidate = best.clone();
+            candidate.drain(at..(at + size).min(best.len()));
+            tried += 1;
+            match fails(&candidate) {
+                true => best = candidate,
+                false => at += size,
+            }
+        }
+        size /= 2;
+    }
+    best
+}

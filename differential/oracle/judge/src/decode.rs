@@ -24,10 +24,6 @@ impl<'a> Fields<'a> {
         Fields(bytes)
     }
 
-    pub fn rest(&self) -> usize {
-        self.0.len()
-    }
-
     /// A number in its shortest form. The groups are gathered in 128 bits, so none is lost.
     pub fn number(&mut self) -> Read<u64> {
         let mut value: u128 = 0;

@@ -3,32 +3,58 @@
 mod adapter;
 mod decode;
 mod run;
+mod store;
 
+use compare::directed::unhex;
 use compare::subject::{Model, Program, Subject};
+use std::io::Read;
+use std::path::Path;
 use std::process::ExitCode;
 
-const USAGE: &str = "usage: judge run HISTORIES SEED [PROGRAM ARGUMENTS..]";
+const USAGE: &str = "usage: judge run HISTORIES SEED [PROGRAM ARGUMENTS..]
+       judge store FOLDER SUMS      makes the stored answers
+       judge show [BYTES..]         one tape, in hexadecimal or on standard input";
 
 fn main() -> ExitCode {
     adapter::install_hook();
     let words: Vec<String> = std::env::args().skip(1).collect();
-    let numbers = |at: usize| words.get(at).and_then(|word| word.parse::<u64>().ok());
-    let done = match (words.first().map(String::as_str), numbers(1), numbers(2)) {
-        (Some("run"), Some(count), Some(seed)) => {
-            let mut subject: Box<dyn Subject> = match words.len() {
-                3 => Box::new(Model),
-                _ => Box::new(Program { words: words[3..].to_vec() }),
-            };
-            run::run(subject.as_mut(), count, seed)
-        }
-        _ => {
-            eprintln!("{USAGE}");
-            return ExitCode::from(2);
-        }
+    let words: Vec<&str> = words.iter().map(String::as_str).collect();
+    let done = match words[..] {
+        ["run", count, seed, ref program @ ..] => run(count, seed, program),
+        ["store", folder, sums] => store(folder, sums),
+        ["show", ref bytes @ ..] => show(bytes),
+        _ => Err(USAGE.into()),
     };
-    if done {
-        ExitCode::SUCCESS
-    } else {
-        ExitCode::FAILURE
+    match done {
+        Ok(true) => ExitCode::SUCCESS,
+        Ok(false) => ExitCode::FAILURE,
+        Err(error) => {
+            eprintln!("{error}");
+            ExitCode::from(2)
+        }
     }
+}
+
+type Done = Result<bool, Box<dyn std::error::Error>>;
+
+fn run(count: &str, seed: &str, program: &[&str]) -> Done {
+    let mut subject: Box<dyn Subject> = match program {
+        [] => Box::new(Model),
+        words => Box::new(Program { words: words.iter().map(|w| w.to_string()).collect() }),
+    };
+    Ok(run::run(subject.as_mut(), count.parse()?, seed.parse()?))
+}
+
+fn store(folder: &str, sums: &str) -> Done {
+    let sums = std::fs::read_to_string(sums)?;
+    Ok(store::store(Path::new(folder), &sums)?)
+}
+
+fn show(bytes: &[&str]) -> Done {
+    let mut tape = unhex(&bytes.concat());
+    if bytes.is_empty() {
+        std::io::stdin().read_to_end(&mut tape)?;
+    }
+    store::show(&tape);
+    Ok(true)
 }
