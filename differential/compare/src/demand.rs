@@ -206,7 +206,10 @@ impl Maxima {
         );
         println!("most asks {} (of {MOST_ASKS})", self.asks);
         println!("latest end after the last input: call {} (of {MOST_CALLS})", self.calls);
-        println!("Waiting tested {} times, the last sentence {} times, longest listing then {}", self.waiting, self.covered, self.listed);
+        println!(
+            "Waiting tested {} times, the last sentence {} times, longest listing then {}",
+            self.waiting, self.covered, self.listed
+        );
         for wrong in self.wrong.iter().take(5) {
             println!("WRONG: {wrong}");
         }

@@ -1,6 +1,8 @@
 //! Tapes written for a purpose: each rule, refusal, difference and deep state of document 01.
 
-use crate::write::{frame, number, Alternative, Body, Configuration, History, Host, Service, V4, V6};
+use crate::write::{
+    frame, number, Alternative, Body, Configuration, History, Host, Service, V4, V6,
+};
 
 /// A tape to store, and what it shows.
 pub struct Entry {
@@ -179,10 +181,7 @@ fn known(shelf: &mut Shelf) {
             .tell(0, https(0, vec![one, two]))
             .calls(0, 6),
     );
-    let alternatives = vec![
-        alternative(Host::None, 0),
-        alternative(Host::V4(v4(9)), 1),
-    ];
+    let alternatives = vec![alternative(Host::None, 0), alternative(Host::V4(v4(9)), 1)];
     shelf.history(
         "rounds-together",
         "alternative services and origin are dealt together",
@@ -201,12 +200,12 @@ fn differences(shelf: &mut Shelf) {
     shelf.history(
         "difference-hints-failed",
         "a hint is kept though A failed",
-        start(only_v4()).calls(0, 2).tell(0, hinted()).tell(0, failed(a(1, &[]))).calls(0, 2),
+        start(only_v4()).calls(0, 2).tell(0, hinted()).tell(0, failed(a(1, &[]))).call(0),
     );
     shelf.history(
         "difference-hints-empty",
         "a hint is kept though A is empty",
-        start(only_v4()).calls(0, 2).tell(0, hinted()).tell(0, a(1, &[])).calls(0, 2),
+        start(only_v4()).calls(0, 2).tell(0, hinted()).tell(0, a(1, &[])).call(0),
     );
     shelf.history(
         "difference-hints-after",
@@ -215,7 +214,7 @@ fn differences(shelf: &mut Shelf) {
             .calls(0, 2)
             .tell(0, hinted())
             .tell(0, a(1, &[1]))
-            .calls(0, 3),
+            .calls(0, 2),
     );
     shelf.history(
         "difference-service-by-name",
@@ -239,15 +238,27 @@ fn differences(shelf: &mut Shelf) {
     shelf.history(
         "difference-reason-name",
         "Failed with no query and no attempt is DNS: mode Name, no version",
-        start(Configuration { mode: 1, versions: 0, ..named() }).calls(0, 2),
+        start(Configuration { mode: 1, versions: 0, ..named() }).call(0),
     );
     shelf.history(
         "difference-reason-address",
         "Failed with no query and no attempt is DNS: address origin, H3 only",
-        start(Configuration { versions: 1, ..at(1) }).calls(0, 2),
+        start(Configuration { versions: 1, ..at(1) }).call(0),
     );
     shelf.history(
         "difference-same-name",
+        "by-name hosts are compared after the dot is dropped: one attempt for c.d. and c.d",
+        start(Configuration {
+            mode: 1,
+            versions: 2,
+            attempt: 0,
+            alternatives: vec![alternative(name("c.d."), 1), alternative(name("c.d"), 1)],
+            ..named()
+        })
+        .calls(0, 3),
+    );
+    shelf.history(
+        "difference-same-name-origin",
         "by-name hosts are compared after the dot is dropped: one attempt for a.b. and a.b",
         start(Configuration {
             mode: 1,
@@ -256,24 +267,36 @@ fn differences(shelf: &mut Shelf) {
             alternatives: vec![alternative(name("a.b"), 1), alternative(Host::None, 1)],
             ..Configuration::named("a.b.")
         })
-        .calls(0, 3),
+        .calls(0, 2),
     );
+    let saturated = || Configuration {
+        attempt: 8_589_934_592,
+        multiplier: 2_147_483_648,
+        alternatives: vec![alternative(Host::V4(v4(2)), 1)],
+        ..at(1)
+    };
     shelf.history(
         "difference-saturated",
         "a delay above 64 bits is held at 2^64-1",
-        start(Configuration {
-            attempt: 8_589_934_592,
-            multiplier: 2_147_483_648,
-            alternatives: vec![
-                alternative(Host::V4(v4(2)), 1),
-                alternative(Host::V4(v4(3)), 1),
-            ],
-            ..at(1)
-        })
-        .call(0)
-        .call(8_589_934_592)
-        .call(8_589_934_592)
-        .call(u64::MAX),
+        start(saturated()).call(0).calls(8_589_934_592, 2),
+    );
+    shelf.history(
+        "difference-saturated-late",
+        "what is left of a delay held at 2^64-1",
+        start(saturated()).call(0).call(8_589_934_592).call(u64::MAX),
+    );
+    let hinted = with_hints(with_ech(service(0, "c.d", 1), &[]), &[], &[1, 2, 3]);
+    shelf.history(
+        "difference-saturated-end",
+        "a delay held at 2^64-1 ends at that age: a retry after the clock went back to 0",
+        start(Configuration { resolution: 0, attempt: u64::MAX, multiplier: 2, ..named() })
+            .call(0)
+            .tell(0, https(0, vec![hinted]))
+            .call(0)
+            .call(u64::MAX)
+            .tell(0, retry(2, &[2]))
+            .call(0)
+            .call(u64::MAX),
     );
     shelf.history(
         "difference-target-dot",
@@ -317,7 +340,8 @@ pub fn longest() -> History {
     .tell(0, a(2, all));
     let services = (0..4)
         .map(|n| {
-            let mut service = with_hints(service(n, "a.b", 7), &[11, 12, 13, 14], &[11, 12, 13, 14]);
+            let mut service =
+                with_hints(service(n, "a.b", 7), &[11, 12, 13, 14], &[11, 12, 13, 14]);
             service.port = Some(1000 + n);
             service
         })
@@ -352,11 +376,7 @@ fn listing(shelf: &mut Shelf) {
     shelf.history(
         "listing-ech-only",
         "with ECH on and one service having it, the others and the origin are left out",
-        answered(
-            named(),
-            vec![service(1, "a.b", 7), with_ech(service(2, "a.b", 6), &[7])],
-            8,
-        ),
+        answered(named(), vec![service(1, "a.b", 7), with_ech(service(2, "a.b", 6), &[7])], 8),
     );
     shelf.history(
         "listing-ech-off",
@@ -414,7 +434,14 @@ fn listing(shelf: &mut Shelf) {
         start(Configuration { attempt: 0, preference: 2, ..named() })
             .calls(0, 2)
             .tell(0, failed(https(0, vec![])))
-            .tell(0, Body::Aaaa { id: 1, flags: 0, items: vec![(v6(1), 0), (v6(1), 4_294_967_295), (v6(1), 1)] })
+            .tell(
+                0,
+                Body::Aaaa {
+                    id: 1,
+                    flags: 0,
+                    items: vec![(v6(1), 0), (v6(1), 4_294_967_295), (v6(1), 1)],
+                },
+            )
             .calls(0, 5),
     );
     let mut mapped = [0; 16];
@@ -434,8 +461,13 @@ fn listing(shelf: &mut Shelf) {
         shelf.history(
             &format!("listing-alternatives-{tag}"),
             "alternative services: literals of an allowed family, no host, a name",
-            start(Configuration { attempt: 0, preference, alternatives: alternatives.clone(), ..at(1) })
-                .calls(0, 12),
+            start(Configuration {
+                attempt: 0,
+                preference,
+                alternatives: alternatives.clone(),
+                ..at(1)
+            })
+            .calls(0, 12),
         );
         shelf.history(
             &format!("listing-hints-{tag}"),
@@ -636,7 +668,9 @@ fn starting(shelf: &mut Shelf) {
 }
 
 fn pacing(shelf: &mut Shelf) {
-    for (tag, multiplier) in [("1", 1), ("2", 2), ("3", 3), ("65535", 65_535), ("largest", (1 << 32) - 1)] {
+    for (tag, multiplier) in
+        [("1", 1), ("2", 2), ("3", 3), ("65535", 65_535), ("largest", (1 << 32) - 1)]
+    {
         let mut history = start(Configuration { attempt: 10, multiplier, ..only_v4() })
             .calls(0, 2)
             .tell(0, https(0, vec![]))
@@ -649,7 +683,11 @@ fn pacing(shelf: &mut Shelf) {
             history = history.call(now - 1);
         }
         history = history.call(now);
-        shelf.history(&format!("pacing-{tag}"), "each attempt in progress multiplies the delay", history);
+        shelf.history(
+            &format!("pacing-{tag}"),
+            "each attempt in progress multiplies the delay",
+            history,
+        );
     }
     shelf.history(
         "pacing-latest",
@@ -912,7 +950,11 @@ fn retries(shelf: &mut Shelf) {
         "a retry with the bytes attempted is no retry",
         raced(1).tell(10, retry(2, &[5])).calls(10, 2),
     );
-    shelf.history("retry-empty", "a retry with no bytes is a retry", raced(1).tell(10, retry(2, &[])).calls(10, 2));
+    shelf.history(
+        "retry-empty",
+        "a retry with no bytes is a retry",
+        raced(1).tell(10, retry(2, &[])).calls(10, 2),
+    );
     shelf.history(
         "retry-of-retry",
         "an ECH retry of a retry only marks it failed",
@@ -952,7 +994,13 @@ fn retries(shelf: &mut Shelf) {
             .calls(0, 2)
             .tell(
                 0,
-                https(0, vec![with_ech(service(1, "a.b", 6), &[5]), with_ech(service(2, "a.b", 6), &[6])]),
+                https(
+                    0,
+                    vec![
+                        with_ech(service(1, "a.b", 6), &[5]),
+                        with_ech(service(2, "a.b", 6), &[6]),
+                    ],
+                ),
             )
             .tell(0, a(1, &[1]))
             .call(0)
@@ -1012,7 +1060,16 @@ fn refreshes(shelf: &mut Shelf) {
             .tell(0, stale(https(0, vec![with_ech(service(1, "a.b", 6), &[1])])))
             .tell(0, a(1, &[1]))
             .calls(0, 2)
-            .tell(0, https(3, vec![with_ech(service(1, "c.d", 6), &[2]), with_ech(service(2, "a.b", 6), &[1])]))
+            .tell(
+                0,
+                https(
+                    3,
+                    vec![
+                        with_ech(service(1, "c.d", 6), &[2]),
+                        with_ech(service(2, "a.b", 6), &[1]),
+                    ],
+                ),
+            )
             .calls(0, 2)
             .tell(0, a(4, &[9]))
             .calls(0, 3)
@@ -1058,11 +1115,9 @@ fn modes(shelf: &mut Shelf) {
         ]
     };
     for mode in 0..3 {
-        for (tag, host) in [
-            ("name", name("a.b.")),
-            ("v4", Host::V4(v4(1))),
-            ("v6", Host::V6(v6(1))),
-        ] {
+        for (tag, host) in
+            [("name", name("a.b.")), ("v4", Host::V4(v4(1))), ("v6", Host::V6(v6(1)))]
+        {
             for (family, preference) in [("v6", 0), ("only-v4", 3)] {
                 shelf.history(
                     &format!("mode-{mode}-{tag}-{family}"),
@@ -1165,7 +1220,11 @@ fn deep(shelf: &mut Shelf) {
     for id in [5, 21, 33] {
         history = history.tell(0, Body::Success(id));
     }
-    shelf.history("deep-cancels", "31 losers, 28 of them cancelled, late results after", history.calls(0, 2));
+    shelf.history(
+        "deep-cancels",
+        "31 losers, 28 of them cancelled, late results after",
+        history.calls(0, 2),
+    );
     shelf.history(
         "deep-all-cancelled",
         "31 cancels after one success",
@@ -1194,7 +1253,11 @@ fn deep(shelf: &mut Shelf) {
         };
         history = history.tell(0, body);
     }
-    shelf.history("deep-stale-records", "16 records, all stale, no room for the 17th", history.calls(0, 4));
+    shelf.history(
+        "deep-stale-records",
+        "16 records, all stale, no room for the 17th",
+        history.calls(0, 4),
+    );
     let mut history = start(named())
         .calls(0, 3)
         .tell(0, stale(https(0, ["c.d", "e.f", "g.h"].iter().map(|t| service(1, t, 6)).collect())))
@@ -1217,8 +1280,16 @@ fn deep(shelf: &mut Shelf) {
         };
         history = history.tell(5 * MS, body);
     }
-    shelf.history("deep-refreshes", "nine records refreshed, the HTTPS answer replaced", history.calls(300 * MS, 6));
-    shelf.history("deep-asks", "94 asks: 16 records, 15 refreshes, 32 attempts, 31 cancels", most_asks());
+    shelf.history(
+        "deep-refreshes",
+        "nine records refreshed, the HTTPS answer replaced",
+        history.calls(300 * MS, 6),
+    );
+    shelf.history(
+        "deep-asks",
+        "94 asks: 16 records, 15 refreshes, 32 attempts, 31 cancels",
+        most_asks(),
+    );
 }
 
 /// 15 records, all refreshed; the HTTPS answer that a refresh brings has a new target, whose first
@@ -1240,10 +1311,8 @@ pub fn most_asks() -> History {
         };
         history = history.tell(0, body);
     }
-    history = history
-        .calls(0, 15)
-        .tell(0, https(15, targets(&["c.d", "e.f", "g.h", "k.l"])))
-        .calls(0, 2);
+    history =
+        history.calls(0, 15).tell(0, https(15, targets(&["c.d", "e.f", "g.h", "k.l"]))).calls(0, 2);
     for (refresh, record) in (16..30).zip(1..15) {
         let items = [1, 2, 3, 4, 5, 6, 7, 8].map(|n| n + 10 * record as u8);
         let body = match record % 2 {
@@ -1280,14 +1349,41 @@ fn bodies(shelf: &mut Shelf) {
     let asked = || start(named()).calls(0, 3);
     let raw = |history: History, hex: &str| history.tell(0, Body::Raw(unhex(hex)));
     let mut history = asked();
-    for hex in ["", "00", "08", "8000", "80", "87 01", "0700", "07 07", "FFFFFFFFFFFFFFFFFF02", "FFFFFFFFFFFFFFFFFF01"] {
+    for hex in [
+        "",
+        "00",
+        "08",
+        "8000",
+        "80",
+        "87 01",
+        "0700",
+        "07 07",
+        "FFFFFFFFFFFFFFFFFF02",
+        "FFFFFFFFFFFFFFFFFF01",
+    ] {
         history = raw(history, hex);
     }
-    shelf.history("body-kinds", "kinds out of range, in longer forms, a call with more bytes", history.call(0));
+    shelf.history(
+        "body-kinds",
+        "kinds out of range, in longer forms, a call with more bytes",
+        history.call(0),
+    );
     let mut history = asked();
     for hex in [
-        "02", "02 02", "02 02 04", "02 02 00", "02 02 00 09", "02 02 00 01 C00002", "02 02 02 00", "02 8200 00 00",
-        "02 02 8000", "02 02 00 8100", "02 02 00 01 C0000201 00", "02 63 04", "02 63 00 00 00", "02 00 00 00 00",
+        "02",
+        "02 02",
+        "02 02 04",
+        "02 02 00",
+        "02 02 00 09",
+        "02 02 00 01 C00002",
+        "02 02 02 00",
+        "02 8200 00 00",
+        "02 02 8000",
+        "02 02 00 8100",
+        "02 02 00 01 C0000201 00",
+        "02 63 04",
+        "02 63 00 00 00",
+        "02 00 00 00 00",
     ] {
         history = raw(history, hex);
     }
@@ -1297,19 +1393,45 @@ fn bodies(shelf: &mut Shelf) {
     for scope in ["", "80", "8000", "FFFFFFFF0F", "8080808010", "00 00", "00"] {
         history = raw(history, &format!("01 01 00 01 {address} {scope}"));
     }
-    shelf.history("body-aaaa", "each fault of an AAAA answer, scopes at and over their limit", history.call(0));
+    shelf.history(
+        "body-aaaa",
+        "each fault of an AAAA answer, scopes at and over their limit",
+        history.call(0),
+    );
     let service_hex = |fields: &str| format!("03 00 00 01 {fields}");
     let mut history = asked();
     for fields in [
-        "", "80 80 04", "FF FF 03", "00 00", "00 FE 01", "00 03 61 2E", "00 03 61 2E 31", "00 03 2E 61 62", "00 02 2E 2E",
-        "00 01 2E", "00 03 61 20 62", "00 01 61 08", "00 01 61 07", "00 01 61 07 81 80 04", "00 01 61 07 80 80 04",
-        "00 01 61 07 00 82 04", "00 01 61 07 00 03 AA", "00 01 61 07 00 00 05", "00 01 61 07 00 00 00 05",
-        "00 01 61 07 00 00 01 C0 00 02", "00 01 61 07 00 00 00 01 20", "00 01 61 07 00 00 00 00 00",
+        "",
+        "80 80 04",
+        "FF FF 03",
+        "00 00",
+        "00 FE 01",
+        "00 03 61 2E",
+        "00 03 61 2E 31",
+        "00 03 2E 61 62",
+        "00 02 2E 2E",
+        "00 01 2E",
+        "00 03 61 20 62",
+        "00 01 61 08",
+        "00 01 61 07",
+        "00 01 61 07 81 80 04",
+        "00 01 61 07 80 80 04",
+        "00 01 61 07 00 82 04",
+        "00 01 61 07 00 03 AA",
+        "00 01 61 07 00 00 05",
+        "00 01 61 07 00 00 00 05",
+        "00 01 61 07 00 00 01 C0 00 02",
+        "00 01 61 07 00 00 00 01 20",
+        "00 01 61 07 00 00 00 00 00",
     ] {
         history = raw(history, &service_hex(fields));
     }
     let history = raw(history, "03 00 00 05");
-    shelf.history("body-https", "each fault of an HTTPS answer, in the order of its fields", history.call(0));
+    shelf.history(
+        "body-https",
+        "each fault of an HTTPS answer, in the order of its fields",
+        history.call(0),
+    );
     let long = |length: usize| {
         let mut labels = vec![b'n'; length];
         for dot in (63..length).step_by(64) {
@@ -1340,7 +1462,17 @@ fn bodies(shelf: &mut Shelf) {
             &format!("body-ech-{tag}"),
             "ECH at and over 512 bytes",
             asked()
-                .tell(0, https(0, vec![with_hints(with_ech(service(1, "a.b", 6), &vec![7; length]), &[], &[1])]))
+                .tell(
+                    0,
+                    https(
+                        0,
+                        vec![with_hints(
+                            with_ech(service(1, "a.b", 6), &vec![7; length]),
+                            &[],
+                            &[1],
+                        )],
+                    ),
+                )
                 .call(0)
                 .tell(0, retry(3, &vec![8; length]))
                 .call(0),
@@ -1374,10 +1506,26 @@ fn bodies(shelf: &mut Shelf) {
         }
     }
     let mut history = start(at(1)).call(0);
-    for hex in ["04", "04 00 00", "05", "05 8000", "06", "06 00", "06 00 02 01", "06 00 00 00", "06 00 81 04", "06 00 80 04", "06 00 01 01"] {
+    for hex in [
+        "04",
+        "04 00 00",
+        "05",
+        "05 8000",
+        "06",
+        "06 00",
+        "06 00 02 01",
+        "06 00 00 00",
+        "06 00 81 04",
+        "06 00 80 04",
+        "06 00 01 01",
+    ] {
         history = raw(history, hex);
     }
-    shelf.history("body-results", "each fault of a result", history.tell(0, Body::Failure(0)).call(0));
+    shelf.history(
+        "body-results",
+        "each fault of a result",
+        history.tell(0, Body::Failure(0)).call(0),
+    );
 }
 
 fn configurations(shelf: &mut Shelf) {
@@ -1395,11 +1543,23 @@ fn configurations(shelf: &mut Shelf) {
     put("flags-4", Configuration { flags: 4, ..named() });
     put("mode-3", Configuration { mode: 3, ..named() });
     put("delays-largest", Configuration { resolution: u64::MAX, attempt: u64::MAX, ..named() });
-    put("alternatives-4", Configuration { alternatives: vec![alternative(Host::None, 1); 4], ..named() });
-    put("alternatives-5", Configuration { alternatives: vec![alternative(Host::None, 1); 5], ..named() });
-    put("alternative-version-3", Configuration { alternatives: vec![alternative(Host::None, 3)], ..named() });
+    put(
+        "alternatives-4",
+        Configuration { alternatives: vec![alternative(Host::None, 1); 4], ..named() },
+    );
+    put(
+        "alternatives-5",
+        Configuration { alternatives: vec![alternative(Host::None, 1); 5], ..named() },
+    );
+    put(
+        "alternative-version-3",
+        Configuration { alternatives: vec![alternative(Host::None, 3)], ..named() },
+    );
     let port = |port| Alternative { host: Host::None, port: Some(port), version: 1 };
-    put("alternative-port-65535", Configuration { alternatives: vec![port(65_535)], mode: 1, ..named() });
+    put(
+        "alternative-port-65535",
+        Configuration { alternatives: vec![port(65_535)], mode: 1, ..named() },
+    );
     put("alternative-port-65536", Configuration { alternatives: vec![port(65_536)], ..named() });
     for (tag, text) in [
         ("empty", ""),

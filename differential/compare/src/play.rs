@@ -145,12 +145,7 @@ pub fn play<R: Referee>(
         answers.extend_from_slice(&answer);
         history.events.push(event);
     }
-    Played {
-        history,
-        answers,
-        depth: player.book.depth.clone(),
-        shape: player.profile.shape,
-    }
+    Played { history, answers, depth: player.book.depth.clone(), shape: player.profile.shape }
 }
 
 impl Player {
@@ -510,9 +505,9 @@ impl Player {
                 Body::Retry { id: attempt.id, ech: self.some_ech() }
             }
             _ => {
-                let ended = self.book.attempts_where(|a| {
-                    matches!(a.ending, Ending::Succeeded | Ending::Failed)
-                });
+                let ended = self
+                    .book
+                    .attempts_where(|a| matches!(a.ending, Ending::Succeeded | Ending::Failed));
                 let at = *ended.get(self.rng.index(ended.len().max(1)))?;
                 let id = self.book.attempts[at].id;
                 let kind = self.rng.between(3, 5);
@@ -704,9 +699,8 @@ fn names(rng: &mut Rng, shape: Shape, origin: &[u8]) -> Vec<Vec<u8>> {
     if rng.chance(20) {
         names.push(origin.to_ascii_uppercase());
     }
-    let others: [&[u8]; 10] = [
-        b"c.d", b"c.d.", b"C.d", b"e.f", b"g.h", b"i.j", b"k.l.", b"m.0x1", b"xn--.n", b"o",
-    ];
+    let others: [&[u8]; 10] =
+        [b"c.d", b"c.d.", b"C.d", b"e.f", b"g.h", b"i.j", b"k.l.", b"m.0x1", b"xn--.n", b"o"];
     let first = rng.index(others.len());
     let fewest = if shape == Shape::Records { 6 } else { 2 };
     let count = rng.between(fewest, 8) as usize;
@@ -720,16 +714,20 @@ fn names(rng: &mut Rng, shape: Shape, origin: &[u8]) -> Vec<Vec<u8>> {
 
 fn echs(rng: &mut Rng) -> Vec<Vec<u8>> {
     let count = rng.between(1, 12);
-    let mut echs: Vec<Vec<u8>> = (0..count)
-        .map(|i| (0..rng.between(1, 3)).map(|_| i as u8).collect())
-        .collect();
+    let mut echs: Vec<Vec<u8>> =
+        (0..count).map(|i| (0..rng.between(1, 3)).map(|_| i as u8).collect()).collect();
     if rng.chance(30) {
         echs.push(Vec::new());
     }
     echs
 }
 
-fn configuration(rng: &mut Rng, profile: &Profile, origin: Vec<u8>, names: &[Vec<u8>]) -> Configuration {
+fn configuration(
+    rng: &mut Rng,
+    profile: &Profile,
+    origin: Vec<u8>,
+    names: &[Vec<u8>],
+) -> Configuration {
     let shape = profile.shape;
     let deep = !matches!(shape, Shape::Wild);
     let mut configuration = Configuration::new(Host::Name(origin), 443);
@@ -776,9 +774,8 @@ fn configuration(rng: &mut Rng, profile: &Profile, origin: Vec<u8>, names: &[Vec
         Shape::ByName => rng.between(1, 4),
         _ => rng.below(5),
     };
-    configuration.alternatives = (0..count)
-        .map(|i| alternative(rng, shape, names, i as usize))
-        .collect();
+    configuration.alternatives =
+        (0..count).map(|i| alternative(rng, shape, names, i as usize)).collect();
     configuration.resolution = match rng.below(20) {
         0..=9 => 50_000_000,
         10..=13 => 0,

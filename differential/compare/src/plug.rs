@@ -84,7 +84,8 @@ pub fn run(program: &mut dyn Subject, stored: &[Stored], amounts: &Amounts, seed
     let mut rng = Rng::new(seed);
     let mut tally = Tally::default();
     let mut bases: Vec<Vec<u8>> = directed::entries().into_iter().map(|e| e.tape).collect();
-    bases.extend(stored.iter().map(|s| s.case.tape.clone()));
+    let random = stored.iter().filter(|s| s.name.starts_with("random"));
+    bases.extend(random.map(|s| s.case.tape.clone()));
     plug.add(bases.iter().map(|tape| Case::new(tape.clone())).collect());
     plug.report("directed and stored");
     for number in 0..amounts.histories {

@@ -14,7 +14,8 @@ pub fn disagreement(bytes: &[u8], expected: &Outcome, found: &Result<Outcome, St
         Ok(found) => {
             out += &format!("found:    {}\n", line(found));
             if let Some(at) = first_difference(&expected.answers, &found.answers) {
-                let said = |bytes: &[u8]| answers(bytes).get(at).cloned().unwrap_or("nothing".into());
+                let said =
+                    |bytes: &[u8]| answers(bytes).get(at).cloned().unwrap_or("nothing".into());
                 out += &format!("answer {at} (from 0) differs\n");
                 out += &format!("    expected: {}\n", said(&expected.answers));
                 out += &format!("    found:    {}\n", said(&found.answers));

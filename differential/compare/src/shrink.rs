@@ -34,9 +34,7 @@ fn try_all(
 ) {
     let mut left = 400;
     while left > 0 {
-        let taken = candidates(best)
-            .into_iter()
-            .any(|candidate| accept(best, candidate, fails));
+        let taken = candidates(best).into_iter().any(|candidate| accept(best, candidate, fails));
         if !taken {
             return;
         }
@@ -209,7 +207,9 @@ fn weight(c: &Configuration) -> u64 {
     let alternatives: u64 = c
         .alternatives
         .iter()
-        .map(|a| 2 + u64::from(a.host != Host::None) + u64::from(a.port.is_some() || a.version != 1))
+        .map(|a| {
+            2 + u64::from(a.host != Host::None) + u64::from(a.port.is_some() || a.version != 1)
+        })
         .sum();
     let delay = |d: u64, default: u64| match d {
         0 => 0,

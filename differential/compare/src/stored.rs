@@ -41,7 +41,10 @@ fn read_one(folder: &Path, line: &str) -> io::Result<Stored> {
         return Err(io::Error::other(format!("{name}.result: not five numbers")));
     };
     if written != answers.len() as u64 {
-        return Err(io::Error::other(format!("{name}: {written} bytes said, {} stored", answers.len())));
+        return Err(io::Error::other(format!(
+            "{name}: {written} bytes said, {} stored",
+            answers.len()
+        )));
     }
     let room = if status == 13 { written } else { ROOM };
     Ok(Stored {

@@ -95,7 +95,9 @@ fn said(answer: &Answer) -> String {
         Answer::Cancel(id) => format!("cancel attempt {id}"),
         Answer::Succeeded => "Succeeded".into(),
         Answer::Failed(reason) => format!("Failed: {}", word(&["DNS", "connection"], *reason)),
-        Answer::Full(kind) => format!("Full: no room for {}", word(&["a query", "an attempt"], *kind)),
+        Answer::Full(kind) => {
+            format!("Full: no room for {}", word(&["a query", "an attempt"], *kind))
+        }
         Answer::Input(number) => word(&REFUSALS, *number),
     }
 }
@@ -132,7 +134,8 @@ fn short(bytes: &[u8]) -> String {
 }
 
 fn text(name: &[u8]) -> String {
-    let shown: String = name.iter().flat_map(|b| std::ascii::escape_default(*b)).map(char::from).collect();
+    let shown: String =
+        name.iter().flat_map(|b| std::ascii::escape_default(*b)).map(char::from).collect();
     match shown.len() {
         0..=60 => format!("\"{shown}\""),
         n => format!("\"{}..\" ({n} bytes)", &shown[..40]),
@@ -170,7 +173,8 @@ fn read_configuration(reader: &mut Reader, out: &mut String) -> Option<()> {
     let host = host(reader)?;
     let _ = writeln!(out, "origin {host}, port {port}");
     let enabled = versions(reader.number()?);
-    let preferences = ["dual stack, IPv6 preferred", "dual stack, IPv4 preferred", "IPv6 only", "IPv4 only"];
+    let preferences =
+        ["dual stack, IPv6 preferred", "dual stack, IPv4 preferred", "IPv6 only", "IPv4 only"];
     let preference = word(&preferences, reader.number()?);
     let count = reader.number()?;
     for at in 0..count {
@@ -184,8 +188,14 @@ fn read_configuration(reader: &mut Reader, out: &mut String) -> Option<()> {
     let mode = word(&["Ip", "Name", "NameWithHttpsRr"], reader.number()?);
     let ech = if flags & 1 == 1 { "on" } else { "off" };
     let wait = if flags & 2 == 2 { "on" } else { "off" };
-    let _ = writeln!(out, "{enabled}; {preference}; mode {mode}; ECH {ech}; wait for preferred address {wait}");
-    let _ = writeln!(out, "resolution delay {resolution} ns, attempt delay {attempt} ns, multiplier {multiplier}");
+    let _ = writeln!(
+        out,
+        "{enabled}; {preference}; mode {mode}; ECH {ech}; wait for preferred address {wait}"
+    );
+    let _ = writeln!(
+        out,
+        "resolution delay {resolution} ns, attempt delay {attempt} ns, multiplier {multiplier}"
+    );
     if flags > 3 {
         let _ = writeln!(out, "flags {flags}?");
     }
@@ -248,7 +258,10 @@ fn read_body(reader: &mut Reader) -> Option<String> {
         }
         4 => format!("attempt {id} succeeded"),
         5 => format!("attempt {id} failed"),
-        _ => format!("attempt {id} rejected, ECH to retry with: {}", ech(&Some(reader.counted()?.to_vec()))),
+        _ => format!(
+            "attempt {id} rejected, ECH to retry with: {}",
+            ech(&Some(reader.counted()?.to_vec()))
+        ),
     })
 }
 

@@ -184,9 +184,7 @@ impl Body {
                 })
             }
             Body::Https { id, flags, items } => {
-                answer(&mut out, 3, *id, *flags, items, |out, service| {
-                    service.write(out)
-                })
+                answer(&mut out, 3, *id, *flags, items, |out, service| service.write(out))
             }
             Body::Success(id) => result(&mut out, 4, *id),
             Body::Failure(id) => result(&mut out, 5, *id),
@@ -252,10 +250,7 @@ pub struct History {
 
 impl History {
     pub fn new(configuration: Configuration) -> History {
-        History {
-            configuration,
-            events: Vec::new(),
-        }
+        History { configuration, events: Vec::new() }
     }
 
     pub fn push(&mut self, moment: u64, body: Body) {

@@ -5,10 +5,7 @@ use std::process::Command;
 use std::{env, fs};
 
 /// The files that are copied, and what is appended to each copy.
-const FILES: [(&str, &str); 2] = [
-    ("src/lib.rs", "shown/lib.rs"),
-    ("src/id.rs", "shown/id.rs"),
-];
+const FILES: [(&str, &str); 2] = [("src/lib.rs", "shown/lib.rs"), ("src/id.rs", "shown/id.rs")];
 
 fn main() {
     let here = PathBuf::from(env::var("CARGO_MANIFEST_DIR").unwrap());
@@ -33,10 +30,8 @@ fn main() {
         let to = out.join(Path::new(file).file_name().unwrap());
         fs::write(to, text).unwrap();
     }
-    let entry = format!(
-        "#[path = {:?}]\nmod original;\npub use original::*;\n",
-        out.join("lib.rs")
-    );
+    let entry =
+        format!("#[path = {:?}]\nmod original;\npub use original::*;\n", out.join("lib.rs"));
     fs::write(out.join("entry.rs"), entry).unwrap();
 }
 
@@ -52,21 +47,23 @@ fn expected<'a>(sums: &'a str, file: &str) -> &'a str {
 /// Stops the build unless the file has the checksum.
 fn check(file: &Path, expected: &str) {
     if !file.is_file() {
-        panic!(
-            "\n\nThe original isn't at {}.\nSet HAPPY_EYEBALLS_SRC to a checkout of mozilla/happy-eyeballs at commit c5ad303ba9.\n\n",
+        stop(&format!(
+            "the original isn't at {}\nSet HAPPY_EYEBALLS_SRC to a checkout of mozilla/happy-eyeballs at commit c5ad303ba9.",
             file.display()
-        );
+        ));
     }
-    let output = Command::new("sha256sum")
-        .arg(file)
-        .output()
-        .expect("sha256sum runs");
+    let output = Command::new("sha256sum").arg(file).output().expect("sha256sum runs");
     let found = String::from_utf8_lossy(&output.stdout);
     let found = found.split_whitespace().next().unwrap_or("");
     if found != expected {
-        panic!(
-            "\n\n{} isn't the file of commit c5ad303ba9:\n  expected sha256 {expected}\n  found    sha256 {found}\n\n",
+        stop(&format!(
+            "{} isn't the file of commit c5ad303ba9\n  expected sha256 {expected}\n  found    sha256 {found}",
             file.display()
-        );
+        ));
     }
+}
+
+fn stop(message: &str) -> ! {
+    eprintln!("\nhappy-eyeballs: {message}\n");
+    std::process::exit(1);
 }

@@ -33,6 +33,8 @@ pub struct Oracle {
     pub spoken: u64,
     /// Answers that only document 01's numbers and limits give: refusals and Full.
     pub silent: u64,
+    /// What the original did instead of the last of these.
+    pub note: Option<String>,
     pub exceptions: Exceptions,
 }
 
@@ -40,8 +42,8 @@ pub struct Oracle {
 pub enum Made {
     Machine(Box<Oracle>),
     Refused(u8),
-    /// The URL parser doesn't give the origin's name back unchanged.
-    Outside,
+    /// The URL parser doesn't give the origin's name back unchanged; what it gives.
+    Outside(String),
 }
 
 impl Oracle {
@@ -51,12 +53,13 @@ impl Oracle {
             Err(refusal) => return Made::Refused(refusal),
         };
         let machine = HappyEyeballs::new_with_network_config(&made.host, made.port, made.network);
-        let Ok(machine) = machine else {
-            return Made::Outside;
+        let machine = match machine {
+            Ok(machine) => machine,
+            Err(error) => return Made::Outside(error.to_string()),
         };
         let name = made.is_name.then_some(made.host.as_str());
         if machine.shown_name() != name {
-            return Made::Outside;
+            return Made::Outside(format!("the origin is {:?}", machine.shown_name()));
         }
         Made::Machine(Box::new(Oracle {
             machine,
@@ -64,6 +67,7 @@ impl Oracle {
             over: false,
             spoken: 0,
             silent: 0,
+            note: None,
             exceptions: Exceptions::default(),
         }))
     }
@@ -72,7 +76,7 @@ impl Oracle {
     pub fn new(body: &[u8]) -> Option<Oracle> {
         match Oracle::make(body) {
             Made::Machine(oracle) => Some(*oracle),
-            Made::Refused(_) | Made::Outside => None,
+            Made::Refused(_) | Made::Outside(_) => None,
         }
     }
 
@@ -115,6 +119,7 @@ impl Oracle {
                     && self.machine.shown_attempts().is_empty() =>
             {
                 self.exceptions.reason += 1;
+                self.note = Some(format!("says {output:?}"));
                 Some(vec![6, 0])
             }
             Some(Output::Timer { duration }) => {
@@ -124,15 +129,25 @@ impl Oracle {
                     return None;
                 }
                 let elapsed = delay - duration.as_nanos();
-                // At this age the delay of document 01 is over and the two part for good.
-                self.over |= elapsed >= most;
                 self.exceptions.saturated += 1;
+                self.note = Some(format!("gives a timer of {} ns", duration.as_nanos()));
                 let mut out = vec![2];
                 number(&mut out, most.saturating_sub(elapsed) as u64);
                 Some(out)
             }
             _ => None,
         }
+    }
+
+    /// A delay above 64 bits is over by document 01 when every attempt in progress has the age
+    /// 2^64-1, and never so early in the original: here the two part for good.
+    fn parts(&self, now: Instant) -> bool {
+        let most = Duration::from_nanos(u64::MAX);
+        let attempts = self.machine.shown_attempts().iter();
+        let mut running = attempts.filter(|a| a.state == ConnectionState::InProgress);
+        self.has_running()
+            && self.machine.shown_delay() > most
+            && running.all(|a| now.duration_since(a.started) >= most)
     }
 
     fn has_running(&self) -> bool {
@@ -148,11 +163,13 @@ impl Referee for Oracle {
             Ok(input) => input,
             Err(refusal) => {
                 self.silent += 1;
+                self.note = Some("has no such body".into());
                 return refusal;
             }
         };
         if self.is_wrong_type(&input) {
             self.silent += 1;
+            self.note = Some("doesn't test the type".into());
             return 9;
         }
         let now = self.at(moment);
@@ -165,7 +182,9 @@ impl Referee for Oracle {
             }
             Err(message) => {
                 self.silent += 1;
-                refusal(&message)
+                let number = refusal(&message);
+                self.note = Some(format!("stops: {message}"));
+                number
             }
         }
     }
@@ -173,6 +192,7 @@ impl Referee for Oracle {
     /// A call. With a table at its limit it is tried on a copy, and what needs one more is Full.
     fn output(&mut self, moment: u64) -> Vec<u8> {
         let now = self.at(moment);
+        self.over |= self.parts(now);
         let queries = self.machine.shown_queries().len();
         let attempts = self.machine.shown_attempts().len();
         let output = if queries < QUERIES && attempts < ATTEMPTS {
@@ -181,12 +201,15 @@ impl Referee for Oracle {
             let mut next = self.machine.clone();
             let output = next.process_output(now);
             let full = match output {
-                Some(Output::SendDnsQuery { allow_stale: true, .. }) if queries == QUERIES => Some(0),
+                Some(Output::SendDnsQuery { allow_stale: true, .. }) if queries == QUERIES => {
+                    Some(0)
+                }
                 Some(Output::AttemptConnection { .. }) if attempts == ATTEMPTS => Some(1),
                 _ => None,
             };
             if let Some(kind) = full {
                 self.silent += 1;
+                self.note = Some("asks for one more".into());
                 return vec![7, kind];
             }
             self.machine = next;
@@ -244,9 +267,9 @@ fn quiet(run: impl FnOnce()) -> Result<(), String> {
     QUIET.set(false);
     result.map_err(|payload| match payload.downcast::<String>() {
         Ok(message) => *message,
-        Err(payload) => payload
-            .downcast::<&str>()
-            .map_or_else(|_| String::new(), |message| message.to_string()),
+        Err(payload) => {
+            payload.downcast::<&str>().map_or_else(|_| String::new(), |message| message.to_string())
+        }
     })
 }
 

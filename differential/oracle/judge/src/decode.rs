@@ -1,8 +1,8 @@
 //! The adapter's own reading of document 01's bodies, into the original's types.
 
 use happy_eyeballs::{
-    AltSvc, ConnectionResult, DnsResult, EchConfig, HttpVersion, HttpVersions, Input,
-    IpPreference, NetworkConfig, ResolutionMode, ScopedIpv6Addr, ServiceInfo, TargetName,
+    AltSvc, ConnectionResult, DnsResult, EchConfig, HttpVersion, HttpVersions, Input, IpPreference,
+    NetworkConfig, ResolutionMode, ScopedIpv6Addr, ServiceInfo, TargetName,
 };
 use std::net::{Ipv4Addr, Ipv6Addr};
 use std::num::NonZeroU32;
@@ -130,9 +130,7 @@ fn is_name(name: &[u8]) -> bool {
     let labels: Vec<&[u8]> = bare.split(|&b| b == b'.').collect();
     let sound = labels.iter().all(|label| {
         (1..=63).contains(&label.len())
-            && label
-                .iter()
-                .all(|b| b.is_ascii_alphanumeric() || b"-_".contains(b))
+            && label.iter().all(|b| b.is_ascii_alphanumeric() || b"-_".contains(b))
     });
     sound && !labels[labels.len() - 1].iter().all(u8::is_ascii_digit)
 }

@@ -2,7 +2,10 @@
 
 mod adapter;
 mod decode;
+#[cfg(test)]
+mod differences;
 mod run;
+mod spoils;
 mod store;
 
 use compare::directed::unhex;
@@ -13,6 +16,7 @@ use std::process::ExitCode;
 
 const USAGE: &str = "usage: judge run HISTORIES SEED [PROGRAM ARGUMENTS..]
        judge store FOLDER SUMS      makes the stored answers
+       judge spoils FOLDER [NAME]   spoils the model under FOLDER (differential/), one place at a time
        judge show [BYTES..]         one tape, in hexadecimal or on standard input";
 
 fn main() -> ExitCode {
@@ -23,6 +27,8 @@ fn main() -> ExitCode {
         ["run", count, seed, ref program @ ..] => run(count, seed, program),
         ["store", folder, sums] => store(folder, sums),
         ["show", ref bytes @ ..] => show(bytes),
+        ["spoils", folder] => spoils(folder, None),
+        ["spoils", folder, name] => spoils(folder, Some(name)),
         _ => Err(USAGE.into()),
     };
     match done {
@@ -57,4 +63,9 @@ fn show(bytes: &[&str]) -> Done {
     }
     store::show(&tape);
     Ok(true)
+}
+
+fn spoils(folder: &str, only: Option<&str>) -> Done {
+    let folder = std::fs::canonicalize(folder)?;
+    spoils::run(&folder.join("spoils.txt"), &folder, only)
 }

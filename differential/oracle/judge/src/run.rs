@@ -57,13 +57,7 @@ fn outcome(history: &History, answers: Vec<u8>) -> Outcome {
             _ => calls += 1,
         }
     }
-    Outcome {
-        status: 0,
-        place: history.tape().len() as u64,
-        calls,
-        check,
-        answers,
-    }
+    Outcome { status: 0, place: history.tape().len() as u64, calls, check, answers }
 }
 
 impl Figures {
@@ -106,6 +100,11 @@ impl Figures {
         self.parted += u64::from(oracle.over());
         let outcome = outcome(&played.history, played.answers);
         Some((played.history, outcome))
+    }
+
+    /// Answers so far that document 01 set against the original.
+    pub fn excepted(&self) -> u64 {
+        self.exceptions.reason + self.exceptions.saturated
     }
 
     pub fn print(&self) {

@@ -21,26 +21,33 @@ pub struct Said {
     pub spoken: u64,
     /// Answers that document 01's numbers, limits and exceptions gave.
     pub silent: u64,
+    /// The number of each such answer, and what the original did.
+    pub notes: Vec<(usize, String)>,
 }
 
 pub fn said(tape: &[u8], place: usize) -> Said {
     let (configured, events, _) = frames(&tape[..place]);
-    let nothing = |why: &str| Said { answers: Err(why.into()), spoken: 0, silent: 0 };
+    let nothing =
+        |why: &str| Said { answers: Err(why.into()), spoken: 0, silent: 0, notes: Vec::new() };
     let mut oracle = match configured.map(Oracle::make) {
         None => return nothing("no configuration"),
-        Some(Made::Refused(number)) => return nothing(&format!("configuration refused with {number}")),
-        Some(Made::Outside) => return nothing("outside the domain"),
+        Some(Made::Refused(number)) => {
+            return nothing(&format!("configuration refused with {number}"))
+        }
+        Some(Made::Outside(what)) => return nothing(&format!("outside the domain: {what}")),
         Some(Made::Machine(oracle)) => oracle,
     };
     let mut answers = Vec::new();
-    for (moment, body) in events {
+    let mut notes = Vec::new();
+    for (number, (moment, body)) in events.into_iter().enumerate() {
         let answer = ask(oracle.as_mut(), moment, body);
         if oracle.over() {
             return nothing("a saturated delay's end leaves the domain");
         }
         answers.extend(answer);
+        notes.extend(oracle.note.take().map(|note| (number, note)));
     }
-    Said { answers: Ok(answers), spoken: oracle.spoken, silent: oracle.silent }
+    Said { answers: Ok(answers), spoken: oracle.spoken, silent: oracle.silent, notes }
 }
 
 /// Random tapes of each aim, small enough to store.
@@ -102,11 +109,8 @@ pub fn store(folder: &Path, sums: &str) -> io::Result<bool> {
         bytes += entry.tape.len() + outcome.answers.len();
         spoken += u64::from(by_original);
         let by = if by_original { "oracle" } else { "model" };
-        let _ = writeln!(
-            list,
-            "{} {by} {} {} {}",
-            entry.name, said.spoken, said.silent, entry.shows
-        );
+        let _ =
+            writeln!(list, "{} {by} {} {} {}", entry.name, said.spoken, said.silent, entry.shows);
     }
     fs::write(folder.join(LIST), list)?;
     println!(
@@ -118,7 +122,7 @@ pub fn store(folder: &Path, sums: &str) -> io::Result<bool> {
 
 fn header(sums: &str) -> String {
     let mut out = String::from(
-        "# Stored answers, made by `make store` in differential/: see differential/README.md.\n\
+        "# Stored answers, made by differential/store.sh.\n\
          # The original is mozilla/happy-eyeballs at commit c5ad303ba9, with these sha256 checksums:\n",
     );
     for line in sums.lines() {
@@ -146,6 +150,9 @@ pub fn show(tape: &[u8]) {
         words::hex(&outcome.answers)
     );
     let said = said(tape, outcome.place as usize);
+    for (number, note) in &said.notes {
+        println!("original at event {number} (from 0): {note}");
+    }
     match said.answers {
         Err(why) => println!("original: {why}"),
         Ok(answers) if answers == outcome.answers => println!(
