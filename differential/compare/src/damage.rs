@@ -1,6 +1,6 @@
 //! Damaged and arbitrary tapes.
 
-use crate::read::frames;
+use crate::read::{frames, Frames};
 use crate::rng::Rng;
 use crate::subject::{Case, ROOM};
 use crate::write::{frame, number};
@@ -8,11 +8,11 @@ use crate::write::{frame, number};
 /// One slip: bytes cut, a bit flipped, a byte changed, put in or taken out.
 pub fn spoil(rng: &mut Rng, bytes: &mut Vec<u8>) {
     if bytes.is_empty() {
-        bytes.push(rng.next() as u8);
+        bytes.push(rng.draw() as u8);
         return;
     }
     let at = rng.index(bytes.len());
-    let byte = rng.next() as u8;
+    let byte = rng.draw() as u8;
     match rng.below(6) {
         0 => bytes.truncate(at),
         1 => bytes[at] ^= 1 << rng.below(8),
@@ -75,8 +75,8 @@ fn slipped(tape: &[u8], at: usize, slip: Slip) -> Vec<u8> {
 
 /// As `variants`, but inside one body, whose frame then has the new length.
 pub fn bodies(rng: &mut Rng, tape: &[u8], most: usize) -> Vec<Case> {
-    let (configured, events, _) = frames(tape);
-    let Some(configured) = configured else {
+    let Frames { configuration, events, .. } = frames(tape);
+    let Some(configured) = configuration else {
         return Vec::new();
     };
     let framed = |configured: &[u8], changed: Option<(usize, &[u8])>| {
@@ -135,7 +135,7 @@ pub fn arbitrary(rng: &mut Rng, configuration: &[u8]) -> Case {
     for _ in 0..rng.below(60) {
         tape.push(match small {
             true => rng.below(9) as u8,
-            false => rng.next() as u8,
+            false => rng.draw() as u8,
         });
     }
     Case { tape, room: rng.pick(&[ROOM, ROOM, 0, 5, 40]) }

@@ -189,7 +189,7 @@ fn played(player: &mut Player, maxima: &mut Maxima) {
     maxima.histories += 1;
     // With no input, it counts from the making.
     sitting.clone().quiet(player.now(), maxima);
-    while let Some(event) = player.next() {
+    while let Some(event) = player.choose() {
         let bytes = sitting.step(&event, maxima);
         player.hear(&event, &bytes);
         if !event.body.is_call() && player.rng.below(QUIET) == 0 {

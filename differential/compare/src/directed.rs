@@ -332,7 +332,9 @@ pub fn longest() -> History {
     let all = &[1, 2, 3, 4, 5, 6, 7, 8];
     let mut history = start(Configuration {
         attempt: 0,
-        alternatives: (0..4).map(|_| alternative(Host::None, 1)).collect(),
+        alternatives: (0..4)
+            .map(|n| Alternative { host: Host::None, port: Some(2000 + n), version: 1 })
+            .collect(),
         ..named()
     })
     .calls(0, 3)

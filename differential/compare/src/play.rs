@@ -135,7 +135,7 @@ pub fn play<R: Referee>(
 ) -> Played {
     let mut history = History::new(player.configuration.clone());
     let mut answers = Vec::new();
-    while let Some(event) = player.next() {
+    while let Some(event) = player.choose() {
         let answer = ask(referee, event.moment, &event.body.bytes());
         if referee.over() {
             break;
@@ -162,7 +162,7 @@ impl Player {
         let echs = echs(&mut rng);
         let configuration = configuration(&mut rng, &profile, origin, &names);
         let now = match profile.clock {
-            Clock::Wild => rng.next(),
+            Clock::Wild => rng.draw(),
             _ => rng.pick(&[0, 0, 0, 1, 1_000_000_000, 1 << 40]),
         };
         Player {
@@ -195,7 +195,7 @@ impl Player {
     }
 
     /// The next event, none at the history's end.
-    pub fn next(&mut self) -> Option<Event> {
+    pub fn choose(&mut self) -> Option<Event> {
         if self.book.depth.events as usize >= self.profile.length || self.written > TAPE {
             return None;
         }
@@ -273,7 +273,7 @@ impl Player {
             Clock::Wild => {
                 if self.rng.chance(40) {
                     self.now = match self.rng.below(4) {
-                        0 => self.rng.next(),
+                        0 => self.rng.draw(),
                         1 => 0,
                         2 => u64::MAX,
                         _ => self.rng.below(1_000_000_000),
@@ -345,9 +345,9 @@ impl Player {
         let id = attempt.id;
         let ech = attempt.ech.clone();
         let on = self.configuration.flags % 2 == 1;
-        if on && ech.is_some() && self.rng.chance(self.profile.retry) {
+        if let (Some(sent), true, true) = (ech, on, self.rng.chance(self.profile.retry)) {
             let ech = match self.rng.below(8) {
-                0 => ech.unwrap(),
+                0 => sent,
                 1 => Vec::new(),
                 _ => self.some_ech(),
             };
@@ -424,7 +424,7 @@ impl Player {
 
     fn some_ech(&mut self) -> Vec<u8> {
         if self.rng.chance(1) {
-            return vec![self.rng.next() as u8; 512];
+            return vec![self.rng.draw() as u8; 512];
         }
         self.rng.pick(&self.echs)
     }
@@ -653,7 +653,7 @@ fn origin(rng: &mut Rng) -> Vec<u8> {
         0 => {
             let mut long = Vec::new();
             for length in [63, 63, 63, 46] {
-                long.extend(std::iter::repeat(b'a' + rng.below(26) as u8).take(length));
+                long.extend(std::iter::repeat_n(b'a' + rng.below(26) as u8, length));
                 long.push(b'.');
             }
             long.pop();

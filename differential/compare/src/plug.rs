@@ -113,7 +113,7 @@ pub fn run(program: &mut dyn Subject, stored: &[Stored], amounts: &Amounts, seed
     }
     plug.report("and damaged ones");
     for _ in 0..amounts.arbitrary {
-        let player = Player::new(Rng::new(rng.next()));
+        let player = Player::new(Rng::new(rng.draw()));
         plug.add(vec![damage::arbitrary(&mut rng, &player.configuration.body())]);
     }
     plug.report("and arbitrary bytes");

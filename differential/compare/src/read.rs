@@ -124,22 +124,29 @@ fn target(reader: &mut Reader) -> Option<Target> {
     })
 }
 
-/// A tape's frames: the configuration's body, then moment and body of each event.
-/// It ends before the first fault; the second answer is where.
-pub fn frames(tape: &[u8]) -> (Option<&[u8]>, Vec<(u64, &[u8])>, usize) {
+/// A tape's whole frames, before the first fault.
+pub struct Frames<'a> {
+    pub configuration: Option<&'a [u8]>,
+    /// Moment and body of each event.
+    pub events: Vec<(u64, &'a [u8])>,
+    /// Where they end.
+    pub place: usize,
+}
+
+pub fn frames(tape: &[u8]) -> Frames<'_> {
     let mut reader = Reader::new(tape);
-    let Some(configuration) = framed(&mut reader) else {
-        return (None, Vec::new(), 0);
-    };
-    let mut events = Vec::new();
-    let mut place = reader.at;
+    let mut frames = Frames { configuration: framed(&mut reader), events: Vec::new(), place: 0 };
+    if frames.configuration.is_none() {
+        return frames;
+    }
+    frames.place = reader.at;
     while !reader.done() {
         let Some(moment) = reader.number() else { break };
         let Some(body) = framed(&mut reader) else { break };
-        events.push((moment, body));
-        place = reader.at;
+        frames.events.push((moment, body));
+        frames.place = reader.at;
     }
-    (Some(configuration), events, place)
+    frames
 }
 
 fn framed<'a>(reader: &mut Reader<'a>) -> Option<&'a [u8]> {

@@ -12,11 +12,11 @@ impl Rng {
     /// The generator of the history with this number, apart from its neighbours.
     pub fn nth(seed: u64, number: u64) -> Rng {
         let mut first = Rng(seed);
-        let base = first.next();
+        let base = first.draw();
         Rng(base ^ number.wrapping_mul(0xd134_2543_de82_ef95))
     }
 
-    pub fn next(&mut self) -> u64 {
+    pub fn draw(&mut self) -> u64 {
         self.0 = self.0.wrapping_add(0x9e37_79b9_7f4a_7c15);
         let mut z = self.0;
         z = (z ^ (z >> 30)).wrapping_mul(0xbf58_476d_1ce4_e5b9);
@@ -26,7 +26,7 @@ impl Rng {
 
     /// A number below `n`, which isn't 0.
     pub fn below(&mut self, n: u64) -> u64 {
-        ((u128::from(self.next()) * u128::from(n)) >> 64) as u64
+        ((u128::from(self.draw()) * u128::from(n)) >> 64) as u64
     }
 
     pub fn index(&mut self, n: usize) -> usize {

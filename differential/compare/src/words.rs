@@ -1,6 +1,6 @@
 //! Tapes and answers in words.
 
-use crate::read::{answer, frames, Answer, Reader, Target};
+use crate::read::{answer, frames, Answer, Frames, Reader, Target};
 use std::fmt::Write;
 use std::net::{Ipv4Addr, Ipv6Addr};
 
@@ -11,7 +11,7 @@ pub fn hex(bytes: &[u8]) -> String {
 
 /// A tape in words, each event with the answer to it, if there are answers.
 pub fn tape(tape: &[u8], answers: &[u8]) -> String {
-    let (configured, events, place) = frames(tape);
+    let Frames { configuration: configured, events, place } = frames(tape);
     let mut out = String::new();
     match configured {
         Some(body) => out += &configuration(body),

@@ -230,7 +230,8 @@ fn answer<T>(
 ) {
     result(out, kind, id);
     number(out, flags);
-    if flags / 2 % 2 == 0 {
+    let failed = flags & 2 != 0;
+    if !failed {
         number(out, items.len() as u64);
         items.iter().for_each(|item| write(out, item));
     }

@@ -48,7 +48,7 @@ fn every_answer_refusal_mode_and_status_is_there() {
     let mut deep = BTreeSet::new();
     for stored in all() {
         statuses.insert(stored.outcome.status);
-        if let (Some(configuration), _, _) = frames(&stored.case.tape) {
+        if let Some(configuration) = frames(&stored.case.tape).configuration {
             modes.extend(configuration.last().copied().filter(|_| stored.outcome.calls > 0));
         }
         let (mut attempts, mut records) = (0, 0);

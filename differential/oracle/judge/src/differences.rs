@@ -1,11 +1,14 @@
 //! What the original does where document 01's bodies can't take it: docs/DIFFERENCES.md cites these.
 
+use crate::adapter::Oracle;
+use compare::directed::longest;
+use compare::play::ask;
 use happy_eyeballs::{
     ConnectionAttemptHttpVersions, DnsRecordType, DnsResult, Endpoint, EndpointTarget,
     HappyEyeballs, HttpVersion, Id, Input, NetworkConfig, Output, ResolutionMode, ServiceInfo,
     TargetName,
 };
-use std::collections::HashSet;
+use std::collections::{BTreeSet, HashSet};
 use std::net::Ipv4Addr;
 use std::time::Instant;
 
@@ -91,4 +94,21 @@ fn names_that_come_back_changed_or_not_at_all() {
     for same in ["a.b", "a.b.", "_x.-y-.a--b", "1.a", "xn--nxasmq6b.b", "a.0x1.b"] {
         assert_eq!(parsed(same).as_deref(), Some(same));
     }
+}
+
+#[test]
+fn the_longest_listing_has_272_endpoints() {
+    let history = longest();
+    let body = history.configuration.body();
+    let mut original = Oracle::new(&body).unwrap();
+    let mut model = model::Machine::new(&body).unwrap();
+    for event in &history.events {
+        let bytes = event.body.bytes();
+        let answer = ask(&mut original, event.moment, &bytes);
+        assert_eq!(ask(&mut model, event.moment, &bytes), answer);
+    }
+    let listing = original.listing();
+    assert_eq!(listing.len(), 272);
+    assert_eq!(listing.iter().collect::<BTreeSet<_>>().len(), 272);
+    assert_eq!(model::listing(&model), listing);
 }

@@ -3,7 +3,7 @@
 use crate::adapter::{Made, Oracle};
 use compare::directed;
 use compare::play::{ask, play, Player, Referee, SHAPES};
-use compare::read::frames;
+use compare::read::{frames, Frames};
 use compare::report::disagreement;
 use compare::rng::Rng;
 use compare::stored::{write, LIST};
@@ -26,10 +26,10 @@ pub struct Said {
 }
 
 pub fn said(tape: &[u8], place: usize) -> Said {
-    let (configured, events, _) = frames(&tape[..place]);
+    let Frames { configuration, events, .. } = frames(&tape[..place]);
     let nothing =
         |why: &str| Said { answers: Err(why.into()), spoken: 0, silent: 0, notes: Vec::new() };
-    let mut oracle = match configured.map(Oracle::make) {
+    let mut oracle = match configuration.map(Oracle::make) {
         None => return nothing("no configuration"),
         Some(Made::Refused(number)) => {
             return nothing(&format!("configuration refused with {number}"))
