@@ -1,0 +1,71 @@
+//! The judge with the original: see differential/README.md.
+
+mod adapter;
+mod decode;
+#[cfg(test)]
+mod differences;
+mod run;
+mod spoils;
+mod store;
+
+use compare::directed::unhex;
+use compare::subject::{Model, Program, Subject};
+use std::io::Read;
+use std::path::Path;
+use std::process::ExitCode;
+
+const USAGE: &str = "usage: judge run HISTORIES SEED [PROGRAM ARGUMENTS..]
+       judge store FOLDER SUMS      makes the stored answers
+       judge spoils FOLDER [NAME]   spoils the model under FOLDER (differential/), one place at a time
+       judge show [BYTES..]         one tape, in hexadecimal or on standard input";
+
+fn main() -> ExitCode {
+    adapter::install_hook();
+    let words: Vec<String> = std::env::args().skip(1).collect();
+    let words: Vec<&str> = words.iter().map(String::as_str).collect();
+    let done = match words[..] {
+        ["run", count, seed, ref program @ ..] => run(count, seed, program),
+        ["store", folder, sums] => store(folder, sums),
+        ["show", ref bytes @ ..] => show(bytes),
+        ["spoils", folder] => spoils(folder, None),
+        ["spoils", folder, name] => spoils(folder, Some(name)),
+        _ => Err(USAGE.into()),
+    };
+    match done {
+        Ok(true) => ExitCode::SUCCESS,
+        Ok(false) => ExitCode::FAILURE,
+        Err(error) => {
+            eprintln!("{error}");
+            ExitCode::from(2)
+        }
+    }
+}
+
+type Done = Result<bool, Box<dyn std::error::Error>>;
+
+fn run(count: &str, seed: &str, program: &[&str]) -> Done {
+    let mut subject: Box<dyn Subject> = match program {
+        [] => Box::new(Model),
+        words => Box::new(Program { words: words.iter().map(|w| w.to_string()).collect() }),
+    };
+    Ok(run::run(subject.as_mut(), count.parse()?, seed.parse()?))
+}
+
+fn store(folder: &str, sums: &str) -> Done {
+    let sums = std::fs::read_to_string(sums)?;
+    Ok(store::store(Path::new(folder), &sums)?)
+}
+
+fn show(bytes: &[&str]) -> Done {
+    let mut tape = unhex(&bytes.concat());
+    if bytes.is_empty() {
+        std::io::stdin().read_to_end(&mut tape)?;
+    }
+    store::show(&tape);
+    Ok(true)
+}
+
+fn spoils(folder: &str, only: Option<&str>) -> Done {
+    let folder = std::fs::canonicalize(folder)?;
+    spoils::run(&folder.join("spoils.txt"), &folder, only)
+}

@@ -1,0 +1,35 @@
+#!/bin/sh
+# The whole judge: run.sh [HISTORIES] [SEED]
+set -eu
+cd "$(dirname "$0")"
+histories=${1:-100000}
+seed=${2:-1}
+built=../target/differential/release
+judge=../target/oracle/release/judge
+
+./install.sh
+./short.sh
+
+echo "--- the original, from ${HAPPY_EYEBALLS_SRC:-../shared/docs/src}"
+(cd oracle && cargo build --release --offline --quiet && cargo test --release --offline --quiet)
+
+echo "--- stored answers made again: the same bytes"
+rm -rf ../target/stored
+./store.sh ../target/stored
+diff -r stored ../target/stored
+
+echo "--- the model against the original"
+$judge run "$histories" "$seed"
+
+echo "--- a program against the original"
+$judge run 2000 "$seed" $built/model --many
+
+echo "--- a program against the model: random, damaged and arbitrary tapes"
+$built/compare plug 2000 1000 20000 "$seed" $built/model --many
+
+echo "--- demand 3 by simulation"
+$built/compare demand 20000 "$seed"
+
+echo "--- the judge judged"
+$judge spoils .
+echo "differential: passed"
