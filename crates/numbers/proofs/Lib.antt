@@ -9,4 +9,5 @@ pub mod PutLaws
 pub mod RoundTrip
 pub mod Settled
 pub mod Steps
+pub mod Undotted
 pub mod WriteLaws
