@@ -1,0 +1,26 @@
+// `deal` as an archive's entry, so that host/dealing.rs can compare it and time it.
+ghost use mathlib.Core.Path.{_≡_};
+ghost use lib.ListN.{length};
+ghost use Rattle.deal.specs.Answer.{dealingNumber, dealAnswer, dealOut};
+use deal::Dealing;
+
+fn number(d: Dealing) -> u64
+    ensures { λ r. ⌜ r ≡ dealingNumber d ⌝ }
+{
+    match d {
+        Dealing::Dealt => 0,
+        Dealing::TooLong => 1,
+        Dealing::OtherRoom => 2,
+        Dealing::NoGroup => 3,
+    }
+}
+
+// Gives the answer's number.
+#[no_mangle]
+pub extern "C" fn deal_positions(groups: &[u8], out: &mut [u16]) -> u64
+    ensures answer { λ r. ⌜ r ≡ dealAnswer (now (groups .entry)) (length (now (out .entry))) ⌝ }
+    ensures room { λ _. ⌜ now (out .exit) ≡ dealOut (now (groups .entry)) (now (out .entry)) ⌝ }
+{
+    let d = deal::deal(groups, out);
+    number(d)
+}

@@ -1,0 +1,3 @@
+// Ids, and the pace of attempts.
+pub mod delay;
+pub mod id;
