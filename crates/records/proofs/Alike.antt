@@ -7,7 +7,7 @@ use mathlib.Core.Option.{Option, none, some}
 use native.Mathlib.Omega.{arith}
 use lib.Dec.{eqb}
 use borrow.Author.Tests.{eqb-true, eq-eqb}
-use Rattle.records.specs.Pick.{both}
+use Rattle.records.specs.Both.{both}
 use Rattle.records.specs.Numbers.{rankNumber}
 use Rattle.records.specs.Names.{hostAt, echAt}
 use Rattle.records.specs.Endpoints.{ShownTarget, four, six, host, Shown, shownTarget, shownEch, shown, sameTarget, sameEch, sameShown, sameEndpoint, sameNumbers, sameSealed, sameHead, sameHosts, sameEchs}

@@ -10,7 +10,7 @@ use lib.Dec.{eqb}
 use lib.ListN.{length, take, drop, getD, drop-of-length-le}
 use lib.Seq.{drop-cons, take-all}
 use borrow.Author.Tests.{eq-eqb, eqb-true}
-use Rattle.records.specs.Pick.{both}
+use Rattle.records.specs.Both.{both}
 use Rattle.records.specs.Names.{sameBytes}
 
 -- lists of other lengths differ

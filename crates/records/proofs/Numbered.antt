@@ -1,10 +1,10 @@
 -- The numbers that answers show are one to one.
 use Prim.Native.Nat.{ℕ}
 use mathlib.Core.Path.{_≡_, refl, sym, ap, _∙_}
+use mathlib.Core.Bool.{cond}
 use mathlib.Core.List.{List, [], _∷_}
 use lib.Dec.{eqb}
 use lib.ListN.{getD, drop}
-use Rattle.records.specs.Pick.{pick}
 use Rattle.records.specs.declared.Names.{Names}
 use Rattle.records.specs.declared.Target.{Target}
 use Rattle.records.specs.declared.Target.the-variants.{V4, V6, Named}
@@ -55,7 +55,7 @@ one-input a b e = sym (input-back a) ∙ ap inputOf e ∙ input-back b
 
 -- a target's number and values give it back
 targetOf : List ℕ → ShownTarget
-targetOf xs = pick (eqb (getD xs 0 0) 0) (four (getD xs 1 0)) (pick (eqb (getD xs 0 0) 1) (six (getD xs 1 0) (getD xs 2 0) (getD xs 3 0)) (host (drop 1 xs)))
+targetOf xs = cond (eqb (getD xs 0 0) 0) (four (getD xs 1 0)) (cond (eqb (getD xs 0 0) 1) (six (getD xs 1 0) (getD xs 2 0) (getD xs 3 0)) (host (drop 1 xs)))
 
 target-back : (t : ShownTarget) → targetOf (targetValues t) ≡ t
 unfolding targetOf

@@ -4,7 +4,7 @@ use mathlib.Core.Bool.{Bool, true, false}
 use mathlib.Core.List.{List, [], _∷_}
 use mathlib.Core.Option.{Option, none, some}
 use lib.Dec.{eqb}
-use Rattle.records.specs.Pick.{both}
+use Rattle.records.specs.Both.{both}
 use Rattle.records.specs.Numbers.{rankNumber}
 use Rattle.records.specs.Names.{sameBytes, hostAt, echAt}
 use Rattle.records.specs.declared.Names.{Names}

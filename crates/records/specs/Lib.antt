@@ -1,4 +1,4 @@
-pub mod Pick
+pub mod Both
 pub mod Numbers
 pub mod Names
 pub mod Endpoints

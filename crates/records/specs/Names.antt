@@ -1,10 +1,10 @@
 -- Names and ECH bytes: where they lie, when they are the same, and the host that a by-name endpoint connects to.
 use Prim.Native.Nat.{ℕ, _-_}
-use mathlib.Core.Bool.{Bool, true, false}
+use mathlib.Core.Bool.{Bool, true, false, cond}
 use mathlib.Core.List.{List, [], _∷_}
 use lib.Dec.{eqb}
 use lib.ListN.{length, getD, take}
-use Rattle.records.specs.Pick.{pick, both}
+use Rattle.records.specs.Both.{both}
 use Rattle.records.specs.declared.Name.{Name}
 use Rattle.records.specs.declared.Names.{Names}
 use Rattle.records.specs.declared.Ech.{Ech}
@@ -43,11 +43,11 @@ echAt t p = echBytes (getD (t .list) p noEch)
 
 -- a name without one trailing dot
 unfoldable pub undotted : List ℕ → List ℕ
-undotted s = pick (eqb (length s) 0) s (pick (eqb (getD s (length s - 1) 0) 46) (take (length s - 1) s) s)
+undotted s = cond (eqb (length s) 0) s (cond (eqb (getD s (length s - 1) 0) 46) (take (length s - 1) s) s)
 
 -- "handed back as the caller's own bytes": the own name, or the origin's where there is none, without its trailing dot
 unfoldable pub connectName : List ℕ → List ℕ → List ℕ
-connectName origin own = pick (eqb (length (undotted own)) 0) (undotted origin) (undotted own)
+connectName origin own = cond (eqb (length (undotted own)) 0) (undotted origin) (undotted own)
 
 -- the host of a by-name endpoint whose name lies at p; the origin's name lies at 0
 unfoldable pub hostAt : Names → ℕ → List ℕ

@@ -3,7 +3,7 @@
 ghost use Prim.Native.Nat.{min};
 ghost use mathlib.Core.Path.{_≡_};
 ghost use lib.Dec.{eqb};
-ghost use Rattle.records.specs.Pick.{both};
+ghost use Rattle.records.specs.Both.{both};
 ghost use Rattle.records.specs.Numbers.{rankNumber, kindNumber, inputKind, targetNumber};
 ghost use Rattle.records.specs.Names.{nameBytes, echBytes, nameAt, echAt, hostAt, sameBytes, sameName, undotted, connectName};
 ghost use Rattle.records.specs.Endpoints.{sameNumbers, sameSealed, sameHead, sameHosts, sameEchs, sameEndpoint};

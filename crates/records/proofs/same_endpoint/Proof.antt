@@ -1,7 +1,7 @@
 -- `records::same_endpoint` meets its contract: the numbers decide first, then the tables.
 use mathlib.Core.Path.{sym, _∙_}
 use borrow.Author.Tests.{not-true, not-false}
-use Rattle.records.specs.Pick.{stops, goes}
+use Rattle.records.specs.Both.{stops, goes}
 use Rattle.records.proofs.Alike.{head-first}
 use borrow.Author.Needs.{needs}
 use Rattle.records.proofs.same_endpoint.Statement.{statement}

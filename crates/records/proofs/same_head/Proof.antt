@@ -1,7 +1,7 @@
 -- `records::same_head` meets its contract, test by test.
 use mathlib.Core.Path.{sym, _∙_}
 use borrow.Author.Tests.{eq-eqb, ne-eqb, not-true, not-false}
-use Rattle.records.specs.Pick.{stops, goes}
+use Rattle.records.specs.Both.{stops, goes}
 use Rattle.records.specs.Endpoints.{sameHead}
 use borrow.Author.Needs.{needs}
 use Rattle.records.proofs.same_head.Statement.{statement}

@@ -1,7 +1,7 @@
 -- `records::same_six` meets its contract, test by test.
 use borrow.Author.Tests.{eq-eqb, ne-eqb}
 use mathlib.Core.Path.{refl}
-use Rattle.records.specs.Pick.{stops, goes}
+use Rattle.records.specs.Both.{stops, goes}
 use Rattle.records.proofs.same_six.Statement.{statement}
 use Rattle.records.proofs.same_six.Tie as tie
 

@@ -1,12 +1,7 @@
--- Choosing by a test, and two tests that must both pass.
+-- Two tests that must both pass. Unlike `_&&_` it stays a name, so that the two laws find its parts.
 use mathlib.Core.Path.{_≡_}
 use mathlib.Core.Bool.{Bool, true, false}
 
-abbrev pub pick : {A : Type 0} → Bool → A → A → A
-pick true a b = a
-pick false a b = b
-
--- both pass
 unfoldable pub both : Bool → Bool → Bool
 both true b = b
 both false b = false

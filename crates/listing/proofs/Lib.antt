@@ -1,0 +1,9 @@
+pub mod Walk
+pub mod Lookup
+pub mod Rooms
+pub mod Tiers
+pub mod Shapes
+pub mod Appending
+pub mod Sorted
+pub mod Bounds
+pub mod Services
