@@ -13,11 +13,11 @@ use Rattle.deal.proofs.Answers.{grouped-map, grouped-all}
 use Rattle.records.specs.Numbers.{rankNumber}
 use Rattle.records.specs.declared.Rank.{Rank}
 use Rattle.records.specs.declared.Rank.the-variants as rank
-use Rattle.listing.specs.declared.Source.{Source}
-use Rattle.listing.specs.declared.Source.the-variants.{Held6, Held4, Hint6, Hint4, Literal6, Literal4, Name}
+use Rattle.records.specs.declared.Source.{Source}
+use Rattle.records.specs.declared.Source.the-variants.{Held6, Held4, Hint6, Hint4, Literal6, Literal4, Name}
 use Rattle.listing.specs.declared.Tier.{Tier}
 use Rattle.listing.specs.declared.Places.{Places}
-use Rattle.listing.specs.declared.Item.{Item}
+use Rattle.records.specs.declared.Item.{Item}
 use Rattle.listing.specs.declared.Listing.{Listing}
 use Rattle.listing.specs.Items.{noItem, familyOf, groupOf}
 use Rattle.listing.specs.Room.{padded, listed, heldItems, tiered, Appends}

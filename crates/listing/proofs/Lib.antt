@@ -7,3 +7,4 @@ pub mod Appending
 pub mod Sorted
 pub mod Bounds
 pub mod Services
+pub mod Laws

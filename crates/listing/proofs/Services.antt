@@ -18,7 +18,8 @@ use Rattle.records.specs.declared.Services.{Services}
 use Rattle.records.proofs.Bytes.{take-cut}
 use Rattle.listing.specs.declared.Listing.{Listing}
 use Rattle.listing.specs.Lists.{each, some?, insertAfter, sortedTo, byPriority}
-use Rattle.listing.specs.Items.{noService, groupOf}
+use Rattle.records.specs.References.{noService}
+use Rattle.listing.specs.Items.{groupOf}
 use Rattle.listing.specs.Listing.{offered, serviceAt, anyEch, isUsable, ordered, usable, tierItems, serviceRuns, serviceTiers, lastRuns, tiers, dealt, itemsToAttempt, prefersSix}
 use Rattle.listing.specs.Room.{listed, heldItems, Orders, serviceItems, servicesItems}
 use Rattle.listing.proofs.Walk.{rest-more, rest-none, rest-end}
@@ -57,7 +58,7 @@ length-sorted : (ps : List ℕ) (n : ℕ) → length (sortedTo ps n) ≡ n
 length-sorted ps zero = refl
 length-sorted ps (suc n) = length-insert (λ i. getD ps i 0) n (sortedTo ps n) ∙ ap suc (length-sorted ps n)
 
-by-priority-length : (ps : List ℕ) → length (byPriority ps) ≡ length ps
+pub by-priority-length : (ps : List ℕ) → length (byPriority ps) ≡ length ps
 unfolding byPriority
 by-priority-length ps = length-sorted ps (length ps)
 
@@ -112,6 +113,11 @@ module _ (r : Rules) (q : Queries) (s : Services) (n : Names) (sealed : Bool) wh
       either : (b : Bool) → length (cond b (interleave (groupOf (prefersSix (r .preference))) (tierItems (serviceRuns r q n i (serviceAt s i)))) []) ≤ 48
       either true = omega (arith, dealt-length (prefersSix (r .preference)) (tierItems (serviceRuns r q n i (serviceAt s i))), service-le r q n i (serviceAt s i))
       either false = omega arith
+
+  pub services-few : (ks : List ℕ) → length (servicesItems r q s n sealed ks) ≤ 48 * length ks
+  unfolding servicesItems each
+  services-few [] = omega arith
+  services-few (k ∷ ks) = omega (arith, length-append (serviceItems r q s n sealed k) (each (serviceItems r q s n sealed) ks), service-few k, services-few ks)
 
 -- what the code has listed after k services
 pub record Serving (r : Rules) (q : Queries) (s : Services) (n : Names) (sealed : Bool) (ks : List ℕ) (k : ℕ) (l : Listing) : Type 0 where

@@ -20,7 +20,8 @@ use Rattle.listing.specs.declared.Pair.{Pair}
 use Rattle.listing.specs.declared.Ranks.{Ranks}
 use Rattle.listing.specs.declared.Run.{Run}
 use Rattle.listing.specs.Lists.{each}
-use Rattle.listing.specs.Items.{noAlt, runItems}
+use Rattle.records.specs.References.{noAlt}
+use Rattle.listing.specs.Items.{runItems}
 use Rattle.listing.specs.Listing.{combined, quic, lot, tierItems, altRuns, altsFrom, originRuns, lastRuns}
 use Rattle.listing.specs.Room.{ranked, lotIf, lotList, atRanks, altRunsAt}
 use Rattle.listing.proofs.Tiers.{items-append}

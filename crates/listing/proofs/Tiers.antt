@@ -11,9 +11,9 @@ use Rattle.deal.specs.Interleaving.{upto}
 use Rattle.deal.proofs.Laws.{length-upto}
 use Rattle.records.specs.declared.Rank.the-variants as rank
 use Rattle.records.specs.declared.EchPlace.the-variants.{Without}
-use Rattle.listing.specs.declared.Source.the-variants.{Held6}
+use Rattle.records.specs.declared.Source.the-variants.{Held6}
 use Rattle.listing.specs.declared.Run.{Run}
-use Rattle.listing.specs.declared.Item.{Item}
+use Rattle.records.specs.declared.Item.{Item}
 use Rattle.listing.specs.Lists.{each}
 use Rattle.listing.specs.declared.Tier.{Tier}
 use Rattle.listing.specs.Items.{noItem, groupOf, itemOf, runItems}

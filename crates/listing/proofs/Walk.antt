@@ -1,7 +1,6 @@
 -- Walking over the first n members of a list, one index a turn.
 use Prim.Native.Nat.{ℕ, _+_, _≤_, _<_}
-use mathlib.Core.Path.{_≡_, refl}
-use mathlib.Core.Bool.{Bool, true, false, cond}
+use mathlib.Core.Path.{_≡_}
 use mathlib.Core.List.{List, [], _∷_}
 use native.Mathlib.Numerals.{add-one}
 use native.Mathlib.Omega.{arith}
@@ -21,8 +20,3 @@ module _ {A : Type 0} (n : ℕ) (l : List A) (i : ℕ) where
 
   pub rest-end : length l ≤ i → drop i (take n l) ≡ []
   rest-end h = drop-of-length-le (take n l) {i = i} (simp length-take (omega arith))
-
--- a choice between two of one
-pub cond-same : {A : Type 0} (b : Bool) (x : A) → x ≡ cond b x x
-cond-same true x = refl
-cond-same false x = refl

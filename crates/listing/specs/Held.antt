@@ -16,7 +16,7 @@ use Rattle.records.specs.declared.Refresh.the-variants.{Idle}
 use Rattle.records.specs.declared.Query.{Query}
 use Rattle.records.specs.declared.Queries.{Queries}
 use Rattle.listing.specs.declared.Spot.{Spot}
-use Rattle.listing.specs.declared.Source.the-variants.{Held6, Held4}
+use Rattle.records.specs.declared.Source.the-variants.{Held6, Held4}
 use Rattle.listing.specs.declared.Pair.{Pair}
 
 abbrev pub noQuery : Query

@@ -31,14 +31,15 @@ use Rattle.records.specs.declared.Rank.the-variants as rank
 use Rattle.records.specs.declared.EchPlace.{EchPlace}
 use Rattle.records.specs.declared.EchPlace.the-variants.{Without, At}
 use Rattle.records.specs.declared.Endpoint.{Endpoint}
-use Rattle.listing.specs.declared.Source.{Source}
-use Rattle.listing.specs.declared.Source.the-variants.{Held6, Hint6, Hint4, Literal6, Literal4, Name}
+use Rattle.records.specs.declared.Source.{Source}
+use Rattle.records.specs.declared.Source.the-variants.{Held6, Hint6, Hint4, Literal6, Literal4, Name}
 use Rattle.listing.specs.declared.Part.{Part}
 use Rattle.listing.specs.declared.Pair.{Pair}
 use Rattle.listing.specs.declared.Run.{Run}
-use Rattle.listing.specs.declared.Item.{Item}
+use Rattle.records.specs.declared.Item.{Item}
 use Rattle.listing.specs.Lists.{each, some?, byPriority}
-use Rattle.listing.specs.Items.{noService, run, runItems, groupOf, endpointOf}
+use Rattle.records.specs.References.{noService, endpointOf}
+use Rattle.listing.specs.Items.{run, runItems, groupOf}
 use Rattle.listing.specs.Held.{heldParts}
 
 -- "combined by `from_http_versions`": H3 alone; H2 and H1 as one where both are there

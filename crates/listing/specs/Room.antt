@@ -1,4 +1,4 @@
--- What the code keeps: lists in rooms, with what is unused zero. Not part of what a reader must believe, but for `listed`.
+-- What the code keeps: lists in rooms, with what is unused zero. A reader needs `listed` and `ranked` of it, which promises cite.
 use Prim.Native.Nat.{ℕ, _+_, _-_, _≤_, _<_}
 use mathlib.Core.Path.{_≡_}
 use mathlib.Core.Bool.{Bool, false, cond}
@@ -7,7 +7,7 @@ use lib.Dec.{ltb}
 use lib.ListN.{length, take, getD, replicate}
 use Rattle.records.specs.declared.Rank.{Rank}
 use Rattle.records.specs.declared.Rank.the-variants as rank
-use Rattle.listing.specs.declared.Item.{Item}
+use Rattle.records.specs.declared.Item.{Item}
 use Rattle.listing.specs.declared.Ranks.{Ranks}
 use Rattle.listing.specs.declared.Listing.{Listing}
 use Rattle.listing.specs.declared.Tier.{Tier}
@@ -25,7 +25,8 @@ use Rattle.listing.specs.declared.Places.{Places}
 use Rattle.records.specs.declared.Services.{Services}
 use Rattle.listing.specs.Lists.{each}
 use Rattle.listing.specs.Listing.{nothing, altRuns, isUsable, serviceAt, serviceRuns, tierItems, dealt}
-use Rattle.listing.specs.Items.{noItem, noAlt, groupOf, run}
+use Rattle.records.specs.References.{noAlt}
+use Rattle.listing.specs.Items.{noItem, groupOf, run}
 
 -- a list in a room of n, the rest of it z
 unfoldable pub padded : {A : Type 0} → ℕ → A → List A → List A

@@ -6,6 +6,7 @@ ghost use lib.Dec.{eqb};
 ghost use Rattle.records.specs.Both.{both};
 ghost use Rattle.records.specs.Numbers.{rankNumber, kindNumber, inputKind, targetNumber};
 ghost use Rattle.records.specs.Names.{nameBytes, echBytes, nameAt, echAt, hostAt, sameBytes, sameName, undotted, connectName};
+ghost use Rattle.records.specs.References.{noAddr, addressAt, hintSix, hintFour, literalAt, literalSix, literalFour, targetOf, endpointOf};
 ghost use Rattle.records.specs.Endpoints.{sameNumbers, sameSealed, sameHead, sameHosts, sameEchs, sameEndpoint};
 
 // 1 to 253 bytes, with one trailing dot or none; empty where there is none.
@@ -194,6 +195,30 @@ pub enum Target {
 
 pub struct Endpoint {
     pub target: Target,
+    pub port: u16,
+    pub rank: Rank,
+    pub ech: EchPlace,
+}
+
+// Where the target of a listed endpoint is found.
+pub enum Source {
+    // the answer of an AAAA or A record, by the record's place
+    Held6(u8),
+    Held4(u8),
+    // the hints of a service, by its place in the answer
+    Hint6(u8),
+    Hint4(u8),
+    // a host that is an address: 0 the origin, 1 + i alternative service i
+    Literal6(u8),
+    Literal4(u8),
+    // a place among the names
+    Name(u8),
+}
+
+// A reference to a listed endpoint: `place` counts within its source.
+pub struct Item {
+    pub source: Source,
+    pub place: u8,
     pub port: u16,
     pub rank: Rank,
     pub ech: EchPlace,
@@ -502,4 +527,143 @@ pub fn same_endpoint(names: Names, echs: Echs, a: Endpoint, b: Endpoint) -> bool
     let e = a.ech;
     let f = b.ech;
     same_echs(echs, e, f)
+}
+
+// The address at a place of a record's answer, 0 outside the table.
+fn address_at(answers: Answers, q: u8, p: u8) -> Addr
+    ensures { λ a. ⌜ a ≡ addressAt answers q p ⌝ }
+{
+    let k = q as usize;
+    let j = p as usize;
+    if 16 <= k {
+        return no_addr();
+    }
+    let x = answers.list[k];
+    if 8 <= j {
+        return no_addr();
+    }
+    x.list[j]
+}
+
+fn no_addr() -> Addr
+    ensures { λ a. ⌜ a ≡ noAddr ⌝ }
+{
+    Addr {
+        hi: 0,
+        lo: 0,
+        scope: 0,
+    }
+}
+
+fn hint_six(services: Services, i: u8, p: u8) -> Addr
+    ensures { λ a. ⌜ a ≡ hintSix services i p ⌝ }
+{
+    let k = i as usize;
+    let j = p as usize;
+    if 4 <= k {
+        return no_addr();
+    }
+    let x = services.list[k];
+    if 4 <= j {
+        return no_addr();
+    }
+    x.v6[j]
+}
+
+fn hint_four(services: Services, i: u8, p: u8) -> u32
+    ensures { λ a. ⌜ a ≡ hintFour services i p ⌝ }
+{
+    let k = i as usize;
+    let j = p as usize;
+    if 4 <= k {
+        return 0;
+    }
+    let x = services.list[k];
+    if 4 <= j {
+        return 0;
+    }
+    x.v4[j]
+}
+
+// The host of the origin (0) or of alternative service k - 1.
+fn literal_at(r: Rules, alts: Alts, k: u8) -> Host
+    ensures { λ h. ⌜ h ≡ literalAt r alts k ⌝ }
+{
+    if k == 0 {
+        let h = r.host;
+        return h;
+    }
+    let j = (k - 1) as usize;
+    if 4 <= j {
+        return Host::Named;
+    }
+    let a = alts.list[j];
+    let h = a.host;
+    h
+}
+
+fn literal_six(h: Host) -> Target
+    ensures { λ t. ⌜ t ≡ literalSix h ⌝ }
+{
+    match h {
+        Host::V6(x, y) => Target::V6(x, y, 0),
+        Host::V4(_) => Target::V6(0, 0, 0),
+        Host::Named => Target::V6(0, 0, 0),
+        Host::Absent => Target::V6(0, 0, 0),
+    }
+}
+
+fn literal_four(h: Host) -> Target
+    ensures { λ t. ⌜ t ≡ literalFour h ⌝ }
+{
+    match h {
+        Host::V4(x) => Target::V4(x),
+        Host::V6(_, _) => Target::V4(0),
+        Host::Named => Target::V4(0),
+        Host::Absent => Target::V4(0),
+    }
+}
+
+fn target_at(r: Rules, alts: Alts, answers: Answers, services: Services, p: u8, s: Source) -> Target
+    ensures { λ t. ⌜ t ≡ targetOf r alts answers services p s ⌝ }
+{
+    match s {
+        Source::Held6(q) => {
+            let a = address_at(answers, q, p);
+            Target::V6(a.hi, a.lo, a.scope)
+        }
+        Source::Held4(q) => {
+            let a = address_at(answers, q, p);
+            Target::V4((a.lo % 4294967296) as u32)
+        }
+        Source::Hint6(i) => {
+            let a = hint_six(services, i, p);
+            Target::V6(a.hi, a.lo, a.scope)
+        }
+        Source::Hint4(i) => Target::V4(hint_four(services, i, p)),
+        Source::Literal6(k) => literal_six(literal_at(r, alts, k)),
+        Source::Literal4(k) => literal_four(literal_at(r, alts, k)),
+        Source::Name(w) => Target::Named(w),
+    }
+}
+
+// The endpoint that a reference stands for; a place outside its table reads as empty.
+pub fn endpoint_at(
+    rules: Rules,
+    alts: Alts,
+    answers: Answers,
+    services: Services,
+    item: Item,
+) -> Endpoint
+    ensures { λ e. ⌜ e ≡ endpointOf rules alts answers services item ⌝ }
+{
+    let s = item.source;
+    let k = item.rank;
+    let e = item.ech;
+    Endpoint {
+        target: target_at(rules, alts, answers, services, item.place, s),
+        port: item.port,
+        rank: k,
+        ech: e,
+    }
 }

@@ -6,7 +6,7 @@ use mathlib.Core.Bool.{false}
 use lib.ListN.{getD}
 use Rattle.records.specs.declared.EchPlace.the-variants.{Without}
 use Rattle.records.specs.declared.Rank.the-variants.{H3}
-use Rattle.listing.specs.Items.{noAlt}
+use Rattle.records.specs.References.{noAlt}
 use Rattle.listing.specs.Listing.{nothing, isEnabled, rankOf, portOr, altAt, altRuns, tierItems}
 use Rattle.listing.specs.Room.{altRunsAt, lotList}
 use Rattle.listing.proofs.Shapes.{lot-if}

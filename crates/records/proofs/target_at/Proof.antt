@@ -1,7 +1,7 @@
--- `listing::target_at` meets its contract, by the source's case.
+-- `records::target_at` meets its contract, by the source's case.
 use borrow.Author.Needs.{needs}
-use Rattle.listing.proofs.target_at.Statement.{statement}
-use Rattle.listing.proofs.target_at.Tie as tie
+use Rattle.records.proofs.target_at.Statement.{statement}
+use Rattle.records.proofs.target_at.Tie as tie
 
 enum-known-s : tie.Need-enum-known-s
 enum-known-s c = search needs
@@ -33,8 +33,8 @@ hint-four-requires c κs = search needs
 enum-known-s-5 : tie.Need-enum-known-s-5
 enum-known-s-5 c = search needs
 
-host-at-requires : tie.Need-host-at-requires
-host-at-requires c κs = search needs
+literal-at-requires : tie.Need-literal-at-requires
+literal-at-requires c κs = search needs
 
 literal-six-requires : tie.Need-literal-six-requires
 literal-six-requires c κs = search needs
@@ -42,8 +42,8 @@ literal-six-requires c κs = search needs
 enum-known-s-6 : tie.Need-enum-known-s-6
 enum-known-s-6 c = search needs
 
-host-at-requires-2 : tie.Need-host-at-requires-2
-host-at-requires-2 c κs = search needs
+literal-at-requires-2 : tie.Need-literal-at-requires-2
+literal-at-requires-2 c κs = search needs
 
 literal-four-requires : tie.Need-literal-four-requires
 literal-four-requires c κs = search needs
@@ -64,10 +64,10 @@ returns-4 : tie.Need-returns-4
 returns-4 c = rw (c .before .before .s4 .given .1, ← c .hint-four .ensures)
 
 returns-5 : tie.Need-returns-5
-returns-5 c = rw (c .before .before .before .s5 .given .1, ← c .before .host-at .ensures) (c .literal-six .ensures)
+returns-5 c = rw (c .before .before .before .s5 .given .1, ← c .before .literal-at .ensures) (c .literal-six .ensures)
 
 returns-6 : tie.Need-returns-6
-returns-6 c = rw (c .before .before .before .s6 .given .1, ← c .before .host-at2 .ensures) (c .literal-four .ensures)
+returns-6 c = rw (c .before .before .before .s6 .given .1, ← c .before .literal-at2 .ensures) (c .literal-four .ensures)
 
 returns-7 : tie.Need-returns-7
 returns-7 c = rw (c .before .s7 .given .1)
@@ -86,10 +86,10 @@ target-at-spec =
     enum-known-s-4
     hint-four-requires
     enum-known-s-5
-    host-at-requires
+    literal-at-requires
     literal-six-requires
     enum-known-s-6
-    host-at-requires-2
+    literal-at-requires-2
     literal-four-requires
     enum-known-s-7
     returns

@@ -1,12 +1,12 @@
--- `listing::host_at` meets its contract: outside the table nothing is read.
+-- `records::literal_at` meets its contract: outside the table nothing is read.
 use borrow.Author.Tests.{eq-eqb, ne-eqb, lt-ltb, le-ltb}
-use Rattle.listing.specs.Items.{hostAt}
+use Rattle.records.specs.References.{literalAt}
 use borrow.Author.Needs.{needs}
-use Rattle.listing.proofs.host_at.Statement.{statement}
-use Rattle.listing.proofs.host_at.Tie as tie
+use Rattle.records.proofs.literal_at.Statement.{statement}
+use Rattle.records.proofs.literal_at.Tie as tie
 
 returns : tie.Need-returns
-unfolding hostAt
+unfolding literalAt
 returns c = rw (eq-eqb _ _ (c .if1 .taken))
 
 sub-j : tie.Need-sub-j
@@ -16,7 +16,7 @@ cast-j : tie.Need-cast-j
 cast-j c = search needs
 
 returns-2 : tie.Need-returns-2
-unfolding hostAt
+unfolding literalAt
 returns-2 c = rw (ne-eqb _ _ (c .before .if1 .left), le-ltb _ _ (c .if2 .taken))
 
 mul-a : tie.Need-mul-a
@@ -26,9 +26,9 @@ element-copy-out-a : tie.Need-element-copy-out-a
 element-copy-out-a c = search needs
 
 returns-3 : tie.Need-returns-3
-unfolding hostAt
+unfolding literalAt
 returns-3 c = rw (ne-eqb _ _ (c .before .before .if1 .left), lt-ltb _ _ (c .before .if2 .left))
 
-pub host-at-spec : {M : Type 1} → statement M
-host-at-spec =
+pub literal-at-spec : {M : Type 1} → statement M
+literal-at-spec =
     tie.close (tie.spec returns sub-j cast-j returns-2 mul-a element-copy-out-a returns-3)

@@ -1,8 +1,8 @@
--- `listing::endpoint_at` meets its contract.
-use Rattle.listing.specs.Items.{endpointOf}
+-- `records::endpoint_at` meets its contract.
+use Rattle.records.specs.References.{endpointOf}
 use borrow.Author.Needs.{needs}
-use Rattle.listing.proofs.endpoint_at.Statement.{statement}
-use Rattle.listing.proofs.endpoint_at.Tie as tie
+use Rattle.records.proofs.endpoint_at.Statement.{statement}
+use Rattle.records.proofs.endpoint_at.Tie as tie
 
 target-at-requires : tie.Need-target-at-requires
 target-at-requires c κs = search needs

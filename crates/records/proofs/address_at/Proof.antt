@@ -1,12 +1,12 @@
--- `listing::address_at` meets its contract: outside the tables nothing is read.
+-- `records::address_at` meets its contract: outside the tables nothing is read.
 use mathlib.Core.Path.{_∙_}
 use lib.Dec.{ltb}
 use borrow.Author.Tests.{lt-ltb, le-ltb}
-use Rattle.listing.specs.Items.{addressAt}
-use Rattle.listing.proofs.Walk.{cond-same}
+use Rattle.records.specs.References.{addressAt}
+use Rattle.records.proofs.Cells.{cond-same}
 use borrow.Author.Needs.{needs}
-use Rattle.listing.proofs.address_at.Statement.{statement}
-use Rattle.listing.proofs.address_at.Tie as tie
+use Rattle.records.proofs.address_at.Statement.{statement}
+use Rattle.records.proofs.address_at.Tie as tie
 
 no-addr-requires : tie.Need-no-addr-requires
 no-addr-requires c κs = search needs

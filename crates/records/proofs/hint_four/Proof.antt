@@ -1,11 +1,11 @@
--- `listing::hint_four` meets its contract: outside the tables nothing is read.
+-- `records::hint_four` meets its contract: outside the tables nothing is read.
 use lib.Dec.{ltb}
 use borrow.Author.Tests.{lt-ltb, le-ltb}
-use Rattle.listing.specs.Items.{hintFour}
-use Rattle.listing.proofs.Walk.{cond-same}
+use Rattle.records.specs.References.{hintFour}
+use Rattle.records.proofs.Cells.{cond-same}
 use borrow.Author.Needs.{needs}
-use Rattle.listing.proofs.hint_four.Statement.{statement}
-use Rattle.listing.proofs.hint_four.Tie as tie
+use Rattle.records.proofs.hint_four.Statement.{statement}
+use Rattle.records.proofs.hint_four.Tie as tie
 
 returns : tie.Need-returns
 unfolding hintFour
