@@ -30,14 +30,14 @@ returns : tie.Need-returns
 returns c =
     let o = c .before in
     let d = o .before in
-    let cc3 = d .before in
-    let b = cc3 .before in
+    let f = d .before in
+    let b = f .before in
     let a = b .before in
     let s = a .before in
     let e : length (s .args .alts .list) ≡ 4 = simp length-map at (s .good .1 .0 .1 .1 .1 .0 .1 .0 .1) in
     ap tierItems (c .runs-of .ensures)
-    ∙ five (lotList (a .alt-lot .result)) (lotList (b .alt-lot2 .result)) (lotList (cc3 .alt-lot3 .result)) (lotList (d .alt-lot4 .result)) (lotList (o .origin-lot .result))
-    ∙ rw (a .alt-lot .ensures, b .alt-lot2 .ensures, cc3 .alt-lot3 .ensures, d .alt-lot4 .ensures, o .origin-lot .ensures) (sym (last-five _ _ _ _ e))
+    ∙ five (lotList (a .alt-lot .result)) (lotList (b .alt-lot2 .result)) (lotList (f .alt-lot3 .result)) (lotList (d .alt-lot4 .result)) (lotList (o .origin-lot .result))
+    ∙ rw (a .alt-lot .ensures, b .alt-lot2 .ensures, f .alt-lot3 .ensures, d .alt-lot4 .ensures, o .origin-lot .ensures) (sym (last-five _ _ _ _ e))
 
 pub last-runs-spec : {M : Type 1} → statement M
 last-runs-spec =
