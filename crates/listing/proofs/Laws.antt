@@ -2,7 +2,7 @@
 use Prim.Native.Nat.{ℕ, _+_, _≤_}
 use mathlib.Core.Path.{_≡_, refl, sym, ap, _∙_, subst}
 use mathlib.Core.Logic.{⊎-elim}
-use mathlib.Core.Bool.{Bool, true, false, cond}
+use mathlib.Core.Bool.{Bool, true, false, cond, _&&_}
 use mathlib.Core.List.{List, [], _∷_, _++_, map, List·Memᴰ, List·Memᴰ·not-nil, List·Memᴰ·cases-cons, List·Memᴰ·append-cases, Memᴰ·append-left, Memᴰ·append-right}
 use mathlib.Core.List.List·Memᴰ.{List·Memᴰ·head, List·Memᴰ·tail}
 use mathlib.Core.Option.{none, some}
@@ -14,7 +14,6 @@ use Rattle.deal.specs.Interleaving.{consIf, keep, queue, interleave}
 use Rattle.deal.proofs.Lists.{mem-keep}
 use Rattle.deal.proofs.Laws.{interleave-member, inner-order}
 use Rattle.records.specs.References.{targetOf, literalAt, literalSix, literalFour}
-use Rattle.records.specs.Both.{both}
 use Rattle.records.specs.Numbers.{kindNumber}
 use Rattle.records.specs.Names.{nameAt, sameName}
 use Rattle.records.specs.declared.Kind.{Kind}
@@ -177,12 +176,12 @@ found test i [] = record { query = 0; count = 0 }
 found test i (k ∷ l) = cond (test k) (record { query = i; count = k .count }) (found test (i + 1) l)
 
 matches : Names → Kind → ℕ → Known → Bool
-matches names kind place k = both (both (eqb (kindNumber (k .kind)) (kindNumber kind)) (k .done)) (sameName (nameAt names (k .name)) (nameAt names place))
+matches names kind place k = (eqb (kindNumber (k .kind)) (kindNumber kind) && k .done) && sameName (nameAt names (k .name)) (nameAt names place)
 
 found-is : (names : Names) (kind : Kind) (place i : ℕ) (l : List Query) → firstHeld (isHeld names kind place) i l ≡ found (matches names kind place) i (map known l)
 unfolding firstHeld isHeld found matches
 found-is names kind place i [] = refl
-found-is names kind place i (q ∷ l) = ap (cond (both (isFor kind (q .kind) (q .answer)) (sameName (nameAt names (q .name)) (nameAt names place))) (record { query = i; count = holding (q .count) (q .answer) })) (found-is names kind place (i + 1) l)
+found-is names kind place i (q ∷ l) = ap (cond (isFor kind (q .kind) (q .answer) && sameName (nameAt names (q .name)) (nameAt names place)) (record { query = i; count = holding (q .count) (q .answer) })) (found-is names kind place (i + 1) l)
 
 module _ (n : Names) (q p : Queries) (same : map known (take (q .count) (q .list)) ≡ map known (take (p .count) (p .list))) where
   held-same : (kind : Kind) (w : ℕ) → heldAt n q kind w ≡ heldAt n p kind w

@@ -8,3 +8,4 @@ pub mod Sorted
 pub mod Bounds
 pub mod Services
 pub mod Laws
+pub mod RecordOrder

@@ -1,10 +1,9 @@
 -- Looking for the first answered record of a name and type, one record a turn.
 use Prim.Native.Nat.{ℕ, _+_, _≤_, _<_}
-use mathlib.Core.Path.{_≡_, sym, _∙_}
-use mathlib.Core.Bool.{Bool, true, false}
+use mathlib.Core.Path.{_≡_, sym, ap, _∙_}
+use mathlib.Core.Bool.{Bool, true, false, _&&_}
 use mathlib.Core.List.{List}
 use lib.ListN.{length, take, drop, getD}
-use Rattle.records.specs.Both.{stops, goes}
 use Rattle.records.specs.Names.{nameAt, sameName}
 use Rattle.records.specs.declared.Names.{Names}
 use Rattle.records.specs.declared.Kind.{Kind}
@@ -35,11 +34,11 @@ module _ (test : Query → Bool) (n : ℕ) (l : List Query) (i : ℕ) (t : Spot)
 module _ (names : Names) (kind : Kind) (place : ℕ) (q : Query) (b : Bool) (e : b ≡ isFor kind (q .kind) (q .answer)) where
   pub not-for : b ≡ false → isHeld names kind place q ≡ false
   unfolding isHeld
-  not-for h = sym (stops _ (sym e ∙ h))
+  not-for h = ap (λ x. x && sameName (nameAt names (q .name)) (nameAt names place)) (sym e ∙ h)
 
   pub for-named : (c d : Bool) → b ≡ true → c ≡ sameName (nameAt names (q .name)) (nameAt names place) → c ≡ d → isHeld names kind place q ≡ d
   unfolding isHeld
-  for-named c d h f g = sym (goes (sym e ∙ h) (sym g ∙ f))
+  for-named c d h f g = ap (λ x. x && sameName (nameAt names (q .name)) (nameAt names place)) (sym e ∙ h) ∙ (sym f ∙ g)
 
 -- a name is its own
 pub name-refl : (x : List ℕ) → sameName x x ≡ true

@@ -1,10 +1,9 @@
 -- What is held for a name.
 use Prim.Native.Nat.{ℕ, _+_, min}
-use mathlib.Core.Bool.{Bool, true, false, cond}
+use mathlib.Core.Bool.{Bool, true, false, cond, _&&_}
 use mathlib.Core.List.{List, [], _∷_}
 use lib.Dec.{eqb}
 use lib.ListN.{take}
-use Rattle.records.specs.Both.{both}
 use Rattle.records.specs.Numbers.{kindNumber}
 use Rattle.records.specs.Names.{nameAt, sameName}
 use Rattle.records.specs.declared.Names.{Names}
@@ -34,11 +33,11 @@ holding n (Failed t) = 0
 holding n (Held t) = min n 8
 
 abbrev pub isFor : Kind → Kind → Answer → Bool
-isFor kind k a = both (eqb (kindNumber k) (kindNumber kind)) (answered a)
+isFor kind k a = eqb (kindNumber k) (kindNumber kind) && answered a
 
 -- an answered record of that type and of the name at that place
 unfoldable pub isHeld : Names → Kind → ℕ → Query → Bool
-isHeld names kind place q = both (isFor kind (q .kind) (q .answer)) (sameName (nameAt names (q .name)) (nameAt names place))
+isHeld names kind place q = isFor kind (q .kind) (q .answer) && sameName (nameAt names (q .name)) (nameAt names place)
 
 -- the first record that passes, and how many addresses it holds; none is record 0 with no address
 unfoldable pub firstHeld : (Query → Bool) → ℕ → List Query → Spot

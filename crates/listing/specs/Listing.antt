@@ -1,10 +1,9 @@
 -- The listing, document 01 part 4 as the Rust has it (`endpoints_to_attempt`): which endpoints are attempted, and in which order.
 use Prim.Native.Nat.{ℕ, _+_, min}
-use mathlib.Core.Bool.{Bool, true, false, cond}
+use mathlib.Core.Bool.{Bool, true, false, cond, _&&_}
 use mathlib.Core.List.{List, [], _∷_, _++_, map}
 use lib.ListN.{take, getD}
 use Rattle.deal.specs.Interleaving.{interleave, keep}
-use Rattle.records.specs.Both.{both}
 use Rattle.records.specs.Endpoints.{Shown, shown}
 use Rattle.records.specs.declared.Names.{Names}
 use Rattle.records.specs.declared.Echs.{Echs}
@@ -58,7 +57,7 @@ fromHttpVersions v = quic (v .h3) ++ combined (v .h2) (v .h1)
 
 -- "its enabled versions"
 abbrev pub enabled : Versions → Versions → Versions
-enabled on v = record { h3 = both (on .h3) (v .h3); h2 = both (on .h2) (v .h2); h1 = both (on .h1) (v .h1) }
+enabled on v = record { h3 = on .h3 && v .h3; h2 = on .h2 && v .h2; h1 = on .h1 && v .h1 }
 
 abbrev pub isEnabled : Versions → Version → Bool
 isEnabled on version.H3 = on .h3
@@ -134,7 +133,7 @@ lot x port ech rank = run (x .first) port rank ech ∷ run (x .second) port rank
 
 -- "in `NameWithHttpsRr` with a named origin"
 abbrev pub serviceByName : Rules → Bool
-serviceByName r = both (isNamed (r .host)) (withHttps (r .mode))
+serviceByName r = isNamed (r .host) && withHttps (r .mode)
 
 -- (H) A service's endpoints, as the Rust has them: by name, its target's name; else the answers held for its name, then its hints of the allowed families
 unfoldable pub serviceHeld : Rules → Queries → Names → Service → Pair
@@ -197,7 +196,7 @@ serviceAt s i = getD (s .list) i noService
 
 -- "if ECH is on and any has it"
 unfoldable pub anyEch : Bool → Services → Bool
-anyEch on s = both on (some? (λ x. hasEch (x .ech)) (offered s))
+anyEch on s = on && some? (λ x. hasEch (x .ech)) (offered s)
 
 -- "skip those without ECH" then
 abbrev pub isUsable : Bool → Services → ℕ → Bool

@@ -1,10 +1,9 @@
 -- Endpoints with their bytes, and when two are the same: target, port, rank and ECH bytes.
 use Prim.Native.Nat.{ℕ}
-use mathlib.Core.Bool.{Bool, true, false}
+use mathlib.Core.Bool.{Bool, true, false, _&&_}
 use mathlib.Core.List.{List, [], _∷_}
 use mathlib.Core.Option.{Option, none, some}
 use lib.Dec.{eqb}
-use Rattle.records.specs.Both.{both}
 use Rattle.records.specs.Numbers.{rankNumber}
 use Rattle.records.specs.Names.{sameBytes, hostAt, echAt}
 use Rattle.records.specs.declared.Names.{Names}
@@ -52,7 +51,7 @@ sameTarget (four a) (four b) = eqb a b
 sameTarget (four a) (six h l s) = false
 sameTarget (four a) (host y) = false
 sameTarget (six h l s) (four b) = false
-sameTarget (six h l s) (six i m t) = both (eqb h i) (both (eqb l m) (eqb s t))
+sameTarget (six h l s) (six i m t) = eqb h i && (eqb l m && eqb s t)
 sameTarget (six h l s) (host y) = false
 sameTarget (host x) (four b) = false
 sameTarget (host x) (six i m t) = false
@@ -65,7 +64,7 @@ sameEch (some x) none = false
 sameEch (some x) (some y) = sameBytes x y
 
 abbrev pub sameShown : Shown → Shown → Bool
-sameShown a b = both (eqb (a .port) (b .port)) (both (eqb (rankNumber (a .rank)) (rankNumber (b .rank))) (both (sameTarget (a .target) (b .target)) (sameEch (a .ech) (b .ech))))
+sameShown a b = eqb (a .port) (b .port) && (eqb (rankNumber (a .rank)) (rankNumber (b .rank)) && (sameTarget (a .target) (b .target) && sameEch (a .ech) (b .ech)))
 
 -- the same endpoint: the same with its bytes
 unfoldable pub sameEndpoint : Names → Echs → Endpoint → Endpoint → Bool
@@ -77,7 +76,7 @@ sameNumbers (V4 a) (V4 b) = eqb a b
 sameNumbers (V4 a) (V6 h l s) = false
 sameNumbers (V4 a) (Named q) = false
 sameNumbers (V6 h l s) (V4 b) = false
-sameNumbers (V6 h l s) (V6 i m t) = both (eqb h i) (both (eqb l m) (eqb s t))
+sameNumbers (V6 h l s) (V6 i m t) = eqb h i && (eqb l m && eqb s t)
 sameNumbers (V6 h l s) (Named q) = false
 sameNumbers (Named p) (V4 b) = false
 sameNumbers (Named p) (V6 i m t) = false
@@ -90,7 +89,7 @@ sameSealed (At p) Without = false
 sameSealed (At p) (At q) = true
 
 unfoldable pub sameHead : Endpoint → Endpoint → Bool
-sameHead a b = both (eqb (a .port) (b .port)) (both (eqb (rankNumber (a .rank)) (rankNumber (b .rank))) (both (sameNumbers (a .target) (b .target)) (sameSealed (a .ech) (b .ech))))
+sameHead a b = eqb (a .port) (b .port) && (eqb (rankNumber (a .rank)) (rankNumber (b .rank)) && (sameNumbers (a .target) (b .target) && sameSealed (a .ech) (b .ech)))
 
 -- What the tables decide, where the numbers agree.
 abbrev pub sameHosts : Names → Target → Target → Bool

@@ -1,4 +1,3 @@
-pub mod Both
 pub mod Numbers
 pub mod Names
 pub mod Endpoints

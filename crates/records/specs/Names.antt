@@ -1,10 +1,9 @@
 -- Names and ECH bytes: where they lie, when they are the same, and the host that a by-name endpoint connects to.
 use Prim.Native.Nat.{ℕ, _-_}
-use mathlib.Core.Bool.{Bool, true, false, cond}
+use mathlib.Core.Bool.{Bool, true, false, cond, _&&_}
 use mathlib.Core.List.{List, [], _∷_}
 use lib.Dec.{eqb}
 use lib.ListN.{length, getD, take}
-use Rattle.records.specs.Both.{both}
 use Rattle.records.specs.declared.Name.{Name}
 use Rattle.records.specs.declared.Names.{Names}
 use Rattle.records.specs.declared.Ech.{Ech}
@@ -15,7 +14,7 @@ unfoldable pub sameBytes : List ℕ → List ℕ → Bool
 sameBytes [] [] = true
 sameBytes [] (b ∷ y) = false
 sameBytes (a ∷ x) [] = false
-sameBytes (a ∷ x) (b ∷ y) = both (eqb a b) (sameBytes x y)
+sameBytes (a ∷ x) (b ∷ y) = eqb a b && sameBytes x y
 
 -- (H) "Names are compared byte for byte."
 unfoldable pub sameName : List ℕ → List ℕ → Bool

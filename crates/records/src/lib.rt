@@ -2,8 +2,8 @@
 // Records hold numbers and places; names and ECH bytes lie in two tables beside them. Unused room is zero.
 ghost use Prim.Native.Nat.{min};
 ghost use mathlib.Core.Path.{_≡_};
+ghost use mathlib.Core.Bool.{_&&_};
 ghost use lib.Dec.{eqb};
-ghost use Rattle.records.specs.Both.{both};
 ghost use Rattle.records.specs.Numbers.{rankNumber, kindNumber, inputKind, targetNumber};
 ghost use Rattle.records.specs.Names.{nameBytes, echBytes, nameAt, echAt, hostAt, sameBytes, sameName, undotted, connectName};
 ghost use Rattle.records.specs.References.{noAddr, addressAt, hintSix, hintFour, literalAt, literalSix, literalFour, targetOf, endpointOf};
@@ -428,7 +428,7 @@ fn same_numbers(a: Target, b: Target) -> bool
 }
 
 fn same_six(h: u64, l: u64, s: u32, i: u64, m: u64, t: u32) -> bool
-    ensures { λ r. ⌜ r ≡ both (eqb h i) (both (eqb l m) (eqb s t)) ⌝ }
+    ensures { λ r. ⌜ r ≡ eqb h i && (eqb l m && eqb s t) ⌝ }
 {
     if h != i {
         return false;
