@@ -1,0 +1,142 @@
+-- A tier's endpoints at the end of a listing, one after the other in the given order, and what that comes to for an order that was dealt.
+use Prim.Native.Nat.{ℕ, _+_, _≤_, _<_}
+use mathlib.Core.Path.{_≡_, sym, ap, _∙_}
+use mathlib.Core.Bool.{Bool, true, false}
+use mathlib.Core.List.{List, [], _∷_, _++_, map, append-assoc, map-append}
+use native.Mathlib.Numerals.{add-one}
+use native.Mathlib.Omega.{arith}
+use lib.ListN.{length, take, getD, set, length-append, length-map}
+use lib.Seq.{take-suc, length-take-le, getD-take}
+use Rattle.deal.specs.Interleaving.{interleave, order, Grouped}
+use Rattle.deal.proofs.Laws.{by-order, order-below, length-order, group-below}
+use Rattle.deal.proofs.Answers.{grouped-map, grouped-all}
+use Rattle.records.specs.Numbers.{rankNumber}
+use Rattle.records.specs.declared.Rank.{Rank}
+use Rattle.records.specs.declared.Rank.the-variants as rank
+use Rattle.records.specs.declared.Source.{Source}
+use Rattle.records.specs.declared.Source.the-variants.{Held6, Held4, Hint6, Hint4, Literal6, Literal4, Name}
+use Rattle.listing.specs.declared.Tier.{Tier}
+use Rattle.listing.specs.declared.Places.{Places}
+use Rattle.records.specs.declared.Item.{Item}
+use Rattle.listing.specs.declared.Listing.{Listing}
+use Rattle.listing.specs.Items.{noItem, familyOf, groupOf}
+use Rattle.listing.specs.Room.{padded, listed, heldItems, tiered, Appends}
+use Rattle.listing.proofs.Rooms.{padded-set, padded-take, map-same, padded-at}
+
+module _ (l : Listing) (e : l ≡ listed (heldItems l)) where
+  pub held-count : l .count ≡ length (heldItems l)
+  unfolding listed
+  held-count = ap (λ x. x .count) e
+
+  pub held-list : l .list ≡ padded 272 noItem (heldItems l)
+  unfolding listed
+  held-list = ap (λ x. x .list) e
+
+-- what a listing holds is what was put into it
+pub held-listed : (xs : List Item) → heldItems (listed xs) ≡ xs
+unfolding listed
+held-listed xs = padded-take noItem 272 xs
+
+pub listed-again : (xs : List Item) (l : Listing) → l ≡ listed xs → l ≡ listed (heldItems l)
+listed-again xs l e = e ∙ ap listed (sym (ap heldItems e ∙ held-listed xs))
+
+module _ (ys : List Item) (f : ℕ → Item) (ord : List ℕ) (base k : ℕ) (out : List Item) (p : out ≡ padded 272 noItem (ys ++ map f (take k ord))) (b : base ≡ length ys) where
+  so-far : k ≤ length ord → length (ys ++ map f (take k ord)) ≡ base + k
+  so-far h = rw (length-append, length-map, length-take-le k ord h) (omega arith)
+
+  pub append-more : k < length ord → base + k < 272 → set out (base + k) (f (getD ord k 0)) ≡ padded 272 noItem (ys ++ map f (take (k + 1) ord))
+  append-more h r =
+      ap (λ x. set x (base + k) (f (getD ord k 0))) p
+      ∙ ap (λ n. set (padded 272 noItem (ys ++ map f (take k ord))) n (f (getD ord k 0))) (sym (so-far (omega arith)))
+      ∙ padded-set noItem 272 (ys ++ map f (take k ord)) (f (getD ord k 0)) (omega (arith, so-far (omega arith)))
+      ∙ ap (padded 272 noItem) (append-assoc ys (map f (take k ord)) (f (getD ord k 0) ∷ []) ∙ ap (λ x. ys ++ x) (sym (map-append f (take k ord) (getD ord k 0 ∷ [])) ∙ ap (map f) (sym (take-suc ord k 0 h) ∙ ap (λ n. take n ord) (sym (add-one k)))))
+
+  pub append-end : k ≤ length ord → record { count = base + k; list = out } ≡ listed (ys ++ map f (take k ord))
+  unfolding listed
+  append-end h = λ j. record { count = sym (so-far h) j; list = p j }
+
+-- every group is one of the eight
+pub rank-below : (k : Rank) → rankNumber k < 4
+rank-below rank.H3 = omega arith
+rank-below rank.H2OrH1 = omega arith
+rank-below rank.H2 = omega arith
+rank-below rank.H1 = omega arith
+
+family-below : (b : Bool) (s : Source) → familyOf b s < 2
+family-below true (Held6 q) = omega arith
+family-below false (Held6 q) = omega arith
+family-below true (Held4 q) = omega arith
+family-below false (Held4 q) = omega arith
+family-below true (Hint6 i) = omega arith
+family-below false (Hint6 i) = omega arith
+family-below true (Hint4 i) = omega arith
+family-below false (Hint4 i) = omega arith
+family-below true (Literal6 k) = omega arith
+family-below false (Literal6 k) = omega arith
+family-below true (Literal4 k) = omega arith
+family-below false (Literal4 k) = omega arith
+family-below b (Name w) = omega arith
+
+pub eight-groups : (b : Bool) (i : Item) → groupOf b i < 8
+eight-groups b i = group-below (rankNumber (i .rank)) (familyOf b (i .source)) (rank-below (i .rank)) (family-below b (i .source))
+
+pub all-grouped : (b : Bool) (xs : List Item) → Grouped (map (groupOf b) xs)
+all-grouped b xs = grouped-all (map (groupOf b) xs) (grouped-map (groupOf b) (eight-groups b) xs)
+
+-- as many are dealt as there were
+pub dealt-length : (b : Bool) (xs : List Item) → length (interleave (groupOf b) xs) ≡ length xs
+dealt-length b xs = ap length (by-order (groupOf b) xs noItem) ∙ length-map (order (map (groupOf b) xs)) (λ i. getD xs i noItem) ∙ length-order (map (groupOf b) xs) (all-grouped b xs) ∙ length-map xs (groupOf b)
+
+-- positions in dealt order give the interleaved tier
+module _ (prefer6 : Bool) (xs list : List Item) (groups ord : List ℕ) (n : ℕ) (count : n ≡ length xs) (items : list ≡ padded 80 noItem xs) (grouped : groups ≡ padded 80 0 (map (groupOf prefer6) xs)) where
+  pub its-groups : take n groups ≡ map (groupOf prefer6) xs
+  its-groups = rw (grouped, count, ← length-map xs (groupOf prefer6)) (padded-take 0 80 (map (groupOf prefer6) xs))
+
+  pub dealt-is : take n ord ≡ order (take n groups) → map (λ i. getD list i noItem) (take n ord) ≡ interleave (groupOf prefer6) xs
+  dealt-is e =
+      ap (map (λ i. getD list i noItem)) (e ∙ ap order its-groups)
+      ∙ map-same (λ i. getD list i noItem) (λ i. getD xs i noItem) (order (map (groupOf prefer6) xs)) (λ i. ap (λ y. getD y i noItem) items ∙ padded-at noItem 80 xs i)
+      ∙ sym (by-order (groupOf prefer6) xs noItem)
+
+-- the same of a tier in its room
+module _ (prefer6 : Bool) (xs : List Item) (t : Tier) (e : t ≡ tiered prefer6 xs) where
+  pub tier-count : t .count ≡ length xs
+  unfolding tiered
+  tier-count = ap (λ x. x .count) e
+
+  tier-list : t .list ≡ padded 80 noItem xs
+  unfolding tiered
+  tier-list = ap (λ x. x .list) e
+
+  tier-groups : t .groups ≡ padded 80 0 (map (groupOf prefer6) xs)
+  unfolding tiered
+  tier-groups = ap (λ x. x .groups) e
+
+  first-groups : take (t .count) (t .groups) ≡ map (groupOf prefer6) xs
+  first-groups = its-groups prefer6 xs (t .list) (t .groups) [] (t .count) tier-count tier-list tier-groups
+
+  pub tier-grouped : Grouped (take (t .count) (t .groups))
+  tier-grouped = rw (first-groups) (all-grouped prefer6 xs)
+
+  module _ (l : Listing) (o : Places) (d : take (t .count) (o .list) ≡ order (take (t .count) (t .groups))) where
+    pub may-append : l ≡ listed (heldItems l) → length xs ≤ 80 → l .count + length xs ≤ 272 → Appends l t o
+    may-append h few room =
+        record {
+          held = h;
+          small = omega (arith, tier-count);
+          fits = omega (arith, tier-count);
+          within = λ k (q : k < t .count). omega (arith, below k q, tier-count);
+        }
+      where
+        gs : length (take (t .count) (t .groups)) ≡ t .count
+        gs = ap length first-groups ∙ length-map xs (groupOf prefer6) ∙ sym tier-count
+
+        below : (k : ℕ) → k < t .count → getD (o .list) k 0 < t .count
+        below k q =
+            let h : k < length (order (take (t .count) (t .groups))) = omega (arith, gs, length-order (take (t .count) (t .groups)) tier-grouped) in
+            let w : getD (order (take (t .count) (t .groups))) k 0 < length (take (t .count) (t .groups)) = order-below (take (t .count) (t .groups)) k h in
+            let v : getD (o .list) k 0 ≡ getD (order (take (t .count) (t .groups))) k 0 = sym (getD-take (t .count) (o .list) k 0 q) ∙ ap (λ y. getD y k 0) d in
+            omega (arith, gs)
+
+    pub appends-dealt : listed (heldItems l ++ map (λ i. getD (t .list) i noItem) (take (t .count) (o .list))) ≡ listed (heldItems l ++ interleave (groupOf prefer6) xs)
+    appends-dealt = ap (λ y. listed (heldItems l ++ y)) (dealt-is prefer6 xs (t .list) (t .groups) (o .list) (t .count) tier-count tier-list tier-groups d)

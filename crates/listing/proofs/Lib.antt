@@ -1,0 +1,11 @@
+pub mod Walk
+pub mod Lookup
+pub mod Rooms
+pub mod Tiers
+pub mod Shapes
+pub mod Appending
+pub mod Sorted
+pub mod Bounds
+pub mod Services
+pub mod Laws
+pub mod RecordOrder

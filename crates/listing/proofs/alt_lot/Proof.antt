@@ -1,0 +1,76 @@
+-- `listing::alt_lot` meets its contract: past the count there is none; a version that isn't enabled has none.
+use mathlib.Core.Path.{_∙_, ap}
+use borrow.Author.Tests.{lt-ltb, le-ltb}
+use Prim.Native.Nat.{_+_}
+use mathlib.Core.Bool.{false}
+use lib.ListN.{getD}
+use Rattle.records.specs.declared.EchPlace.the-variants.{Without}
+use Rattle.records.specs.declared.Rank.the-variants.{H3}
+use Rattle.records.specs.References.{noAlt}
+use Rattle.listing.specs.Listing.{nothing, isEnabled, rankOf, portOr, altAt, altRuns, tierItems}
+use Rattle.listing.specs.Room.{altRunsAt, lotList}
+use Rattle.listing.proofs.Shapes.{lot-if}
+use borrow.Author.Needs.{needs}
+use Rattle.listing.proofs.alt_lot.Statement.{statement}
+use Rattle.listing.proofs.alt_lot.Tie as tie
+
+no-lot-requires : tie.Need-no-lot-requires
+no-lot-requires c κs = search needs
+
+returns : tie.Need-returns
+unfolding altRunsAt
+returns c = ap (λ x. tierItems (lotList x)) (c .no-lot .ensures) ∙ rw (le-ltb _ _ (c .before .if1 .taken)) (lot-if false nothing 0 Without H3)
+
+mul-a : tie.Need-mul-a
+mul-a c = search needs
+
+element-copy-out-a : tie.Need-element-copy-out-a
+element-copy-out-a c = search needs
+
+is-enabled-requires : tie.Need-is-enabled-requires
+is-enabled-requires c κs = search needs
+
+add-alt-at : tie.Need-add-alt-at
+add-alt-at c = search needs
+
+alt-at-requires : tie.Need-alt-at-requires
+alt-at-requires c κs = search needs
+
+port-or-requires : tie.Need-port-or-requires
+port-or-requires c κs = search needs
+
+rank-of-requires : tie.Need-rank-of-requires
+rank-of-requires c κs = search needs
+
+lot-of-requires : tie.Need-lot-of-requires
+lot-of-requires c κs = search needs
+
+returns-2 : tie.Need-returns-2
+unfolding altRunsAt altRuns
+returns-2 c =
+    let ra = c .before in
+    let po = ra .before in
+    let al = po .before in
+    let is = al .before in
+    let el = is .before .before .before in
+    let g = el .before .args in
+    let x = getD (g .t4 .list) (g .i) noAlt in
+    ap (λ y. tierItems (lotList y)) (c .lot-of .ensures)
+    ∙ rw (lt-ltb _ _ (el .if1 .left), ra .rank-of .ensures, po .port-or .ensures, al .alt-at .ensures, is .is-enabled .ensures)
+    (lot-if (isEnabled (g .r .versions) (x .version)) (altAt (g .r) (g .queries) (g .names) (g .i + 1) (x .host)) (portOr (g .r .port) (x .port)) Without (rankOf (x .version)))
+
+pub alt-lot-spec : {M : Type 1} → statement M
+alt-lot-spec =
+    tie.close
+    (tie.spec
+    no-lot-requires
+    returns
+    mul-a
+    element-copy-out-a
+    is-enabled-requires
+    add-alt-at
+    alt-at-requires
+    port-or-requires
+    rank-of-requires
+    lot-of-requires
+    returns-2)

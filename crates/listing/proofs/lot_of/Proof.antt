@@ -1,0 +1,16 @@
+-- `listing::lot_of` meets its contract.
+use borrow.Author.Needs.{needs}
+use Rattle.listing.proofs.lot_of.Statement.{statement}
+use Rattle.listing.proofs.lot_of.Tie as tie
+
+run-of-requires : tie.Need-run-of-requires
+run-of-requires c κs = search needs
+
+run-of-requires-2 : tie.Need-run-of-requires-2
+run-of-requires-2 c κs = search needs
+
+returns : tie.Need-returns
+returns c = rw (c .before .run-of .ensures, c .run-of2 .ensures)
+
+pub lot-of-spec : {M : Type 1} → statement M
+lot-of-spec = tie.close (tie.spec run-of-requires run-of-requires-2 returns)

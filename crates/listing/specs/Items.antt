@@ -1,0 +1,43 @@
+-- Runs of listed endpoints, and the group in which each is dealt.
+use Prim.Native.Nat.{ℕ}
+use mathlib.Core.Bool.{Bool, cond}
+use mathlib.Core.List.{List, map}
+use Rattle.deal.specs.Interleaving.{upto}
+use Rattle.deal.specs.Interleaving as dealing
+use Rattle.records.specs.Numbers.{rankNumber}
+use Rattle.records.specs.declared.Rank.{Rank}
+use Rattle.records.specs.declared.Rank.the-variants as rank
+use Rattle.records.specs.declared.EchPlace.{EchPlace}
+use Rattle.records.specs.declared.EchPlace.the-variants.{Without}
+use Rattle.records.specs.declared.Source.{Source}
+use Rattle.records.specs.declared.Source.the-variants.{Held6, Held4, Hint6, Hint4, Literal6, Literal4, Name}
+use Rattle.listing.specs.declared.Part.{Part}
+use Rattle.listing.specs.declared.Run.{Run}
+use Rattle.records.specs.declared.Item.{Item}
+
+abbrev pub noItem : Item
+noItem = record { source = Held6 0; place = 0; port = 0; rank = rank.H3; ech = Without }
+
+-- 0 for the preferred family, 1 for the other; "Names count as preferred"
+abbrev pub familyOf : Bool → Source → ℕ
+familyOf prefer6 (Held6 q) = cond prefer6 0 1
+familyOf prefer6 (Held4 q) = cond prefer6 1 0
+familyOf prefer6 (Hint6 i) = cond prefer6 0 1
+familyOf prefer6 (Hint4 i) = cond prefer6 1 0
+familyOf prefer6 (Literal6 k) = cond prefer6 0 1
+familyOf prefer6 (Literal4 k) = cond prefer6 1 0
+familyOf prefer6 (Name w) = 0
+
+-- "Groups by (rank H3, H2OrH1, H2, H1; preferred family first)", eight in all
+abbrev pub groupOf : Bool → Item → ℕ
+groupOf prefer6 i = dealing.groupOf (rankNumber (i .rank)) (familyOf prefer6 (i .source))
+
+-- a run: the first so many places of one source, with one port, rank and ECH place
+abbrev pub itemOf : Run → ℕ → Item
+itemOf r p = record { source = r .source; place = p; port = r .port; rank = r .rank; ech = r .ech }
+
+unfoldable pub runItems : Run → List Item
+runItems r = map (itemOf r) (upto (r .count))
+
+abbrev pub run : Part → ℕ → Rank → EchPlace → Run
+run x port rank ech = record { source = x .source; count = x .count; port = port; rank = rank; ech = ech }

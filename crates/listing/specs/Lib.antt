@@ -1,0 +1,5 @@
+pub mod Lists
+pub mod Items
+pub mod Held
+pub mod Listing
+pub mod Room

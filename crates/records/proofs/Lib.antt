@@ -1,0 +1,4 @@
+pub mod Bytes
+pub mod Numbered
+pub mod Alike
+pub mod Cells
