@@ -1,9 +1,10 @@
 -- Names and ECH bytes: where they lie, when they are the same, and the host that a by-name endpoint connects to.
-use Prim.Native.Nat.{ℕ, _-_}
+use Prim.Native.Nat.{ℕ}
 use mathlib.Core.Bool.{Bool, true, false, cond, _&&_}
 use mathlib.Core.List.{List, [], _∷_}
 use lib.Dec.{eqb}
 use lib.ListN.{length, getD, take}
+use Rattle.numbers.specs.Names.{undotted}
 use Rattle.records.specs.declared.Name.{Name}
 use Rattle.records.specs.declared.Names.{Names}
 use Rattle.records.specs.declared.Ech.{Ech}
@@ -39,10 +40,6 @@ nameAt t p = nameBytes (getD (t .list) p noName)
 
 unfoldable pub echAt : Echs → ℕ → List ℕ
 echAt t p = echBytes (getD (t .list) p noEch)
-
--- a name without one trailing dot
-unfoldable pub undotted : List ℕ → List ℕ
-undotted s = cond (eqb (length s) 0) s (cond (eqb (getD s (length s - 1) 0) 46) (take (length s - 1) s) s)
 
 -- "handed back as the caller's own bytes": the own name, or the origin's where there is none, without its trailing dot
 unfoldable pub connectName : List ℕ → List ℕ → List ℕ

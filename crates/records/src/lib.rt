@@ -5,7 +5,8 @@ ghost use mathlib.Core.Path.{_≡_};
 ghost use mathlib.Core.Bool.{_&&_};
 ghost use lib.Dec.{eqb};
 ghost use Rattle.records.specs.Numbers.{rankNumber, kindNumber, inputKind, targetNumber};
-ghost use Rattle.records.specs.Names.{nameBytes, echBytes, nameAt, echAt, hostAt, sameBytes, sameName, undotted, connectName};
+ghost use Rattle.numbers.specs.Names.{undotted};
+ghost use Rattle.records.specs.Names.{nameBytes, echBytes, nameAt, echAt, hostAt, sameBytes, sameName, connectName};
 ghost use Rattle.records.specs.References.{noAddr, addressAt, hintSix, hintFour, literalAt, literalSix, literalFour, targetOf, endpointOf};
 ghost use Rattle.records.specs.Endpoints.{sameNumbers, sameSealed, sameHead, sameHosts, sameEchs, sameEndpoint};
 

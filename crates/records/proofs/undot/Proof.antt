@@ -2,15 +2,13 @@
 use mathlib.Core.Path.{sym}
 use lib.Seq.{length-take-le}
 use native.Mathlib.Omega.{arith}
-use borrow.Author.Tests.{eq-eqb, ne-eqb}
-use Rattle.records.specs.Names.{undotted}
+use Rattle.numbers.proofs.Undotted.{no-byte, a-dot, no-dot}
 use borrow.Author.Needs.{needs}
 use Rattle.records.proofs.undot.Statement.{statement}
 use Rattle.records.proofs.undot.Tie as tie
 
 returns : tie.Need-returns
-unfolding undotted
-returns c = simp (eq-eqb _ _ (c .if1 .taken))
+returns c = no-byte _ (c .if1 .taken)
 
 sub-last : tie.Need-sub-last
 sub-last c = search needs
@@ -22,12 +20,10 @@ slice-aggregate-result : tie.Need-slice-aggregate-result
 slice-aggregate-result c = sym (length-take-le _ _ (omega arith))
 
 returns-2 : tie.Need-returns-2
-unfolding undotted
-returns-2 c = simp (ne-eqb _ _ (c .before .before .before .if1 .left), eq-eqb _ _ (c .before .if2 .taken))
+returns-2 c = a-dot _ (omega (arith, c .before .before .before .if1 .left)) (c .before .if2 .taken)
 
 returns-3 : tie.Need-returns-3
-unfolding undotted
-returns-3 c = simp (ne-eqb _ _ (c .before .before .if1 .left), ne-eqb _ _ (c .if2 .left))
+returns-3 c = no-dot _ (omega (arith, c .before .before .if1 .left)) (c .if2 .left)
 
 pub undot-spec : {M : Type 1} → statement M
 undot-spec =
