@@ -3,10 +3,15 @@
 
 mod any;
 mod archive;
+mod decode;
+mod drive;
 mod flat;
 mod look;
+mod shares;
 mod slips;
 mod words;
 
 pub use archive::THERE;
-pub use look::{player, Choice, Listing, Listings};
+pub use decode::Listing;
+pub use drive::{player, Choice};
+pub use look::Listings;
