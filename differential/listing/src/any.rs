@@ -39,7 +39,7 @@ pub fn any(rng: &mut Rng) -> Flat {
     }
     for _ in 0..rng.pick(&[0, 0, 3, 30]) {
         flat.numbers[rng.index(NUMBERS)] = rng.pick(&[255, 256, 65_535, 65_536, 1 << 32, u64::MAX]);
-        flat.numbers[rng.index(NUMBERS)] = rng.next();
+        flat.numbers[rng.index(NUMBERS)] = rng.draw();
     }
     if rng.chance(20) {
         cut_counts(&mut flat);
