@@ -21,6 +21,9 @@ diff -r stored ../target/stored
 echo "--- the model against the original"
 $judge run "$histories" "$seed"
 
+echo "--- the whole listing: the original's, the model's, and the proved one's where its archive is there"
+$judge listing 100000 "$seed"
+
 echo "--- a program against the original"
 $judge run 2000 "$seed" $built/model --many
 

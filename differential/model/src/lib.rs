@@ -8,6 +8,7 @@
 
 mod answers;
 mod bodies;
+pub mod flat;
 mod input;
 mod listing;
 mod names;
@@ -118,4 +119,9 @@ fn covered(m: &State) -> bool {
 pub fn listing(m: &Machine) -> Vec<Vec<u8>> {
     let listed = listing::endpoints(&m.state);
     listed.iter().map(answers::endpoint).collect()
+}
+
+/// What the listing rests on, as flat numbers; `turn` chooses among equal names.
+pub fn flat(m: &Machine, turn: usize) -> flat::Flat {
+    flat::flat(&m.state, turn)
 }

@@ -4,6 +4,7 @@ mod adapter;
 mod decode;
 #[cfg(test)]
 mod differences;
+mod listings;
 mod run;
 mod spoils;
 mod store;
@@ -15,6 +16,7 @@ use std::path::Path;
 use std::process::ExitCode;
 
 const USAGE: &str = "usage: judge run HISTORIES SEED [PROGRAM ARGUMENTS..]
+       judge listing STATES SEED    the whole listing: the original's, the model's and the proved one's
        judge store FOLDER SUMS      makes the stored answers
        judge spoils FOLDER [NAME]   spoils the model under FOLDER (differential/), one place at a time
        judge show [BYTES..]         one tape, in hexadecimal or on standard input";
@@ -25,6 +27,7 @@ fn main() -> ExitCode {
     let words: Vec<&str> = words.iter().map(String::as_str).collect();
     let done = match words[..] {
         ["run", count, seed, ref program @ ..] => run(count, seed, program),
+        ["listing", states, seed] => listed(states, seed),
         ["store", folder, sums] => store(folder, sums),
         ["show", ref bytes @ ..] => show(bytes),
         ["spoils", folder] => spoils(folder, None),
@@ -49,6 +52,10 @@ fn run(count: &str, seed: &str, program: &[&str]) -> Done {
         words => Box::new(Program { words: words.iter().map(|w| w.to_string()).collect() }),
     };
     Ok(run::run(subject.as_mut(), count.parse()?, seed.parse()?))
+}
+
+fn listed(states: &str, seed: &str) -> Done {
+    Ok(listings::run(states.parse()?, seed.parse()?))
 }
 
 fn store(folder: &str, sums: &str) -> Done {
