@@ -10,6 +10,9 @@ judge=../target/oracle/release/judge
 ./install.sh
 ./short.sh
 
+echo "--- the proved listing, as an archive"
+(cd .. && rt staticlib states >target/differential/states.log 2>&1) || { cat ../target/differential/states.log; exit 1; }
+
 echo "--- the original, from ${HAPPY_EYEBALLS_SRC:-../shared/docs/src}"
 (cd oracle && cargo build --release --offline --quiet && cargo test --release --offline --quiet)
 
@@ -21,8 +24,13 @@ diff -r stored ../target/stored
 echo "--- the model against the original"
 $judge run "$histories" "$seed"
 
-echo "--- the whole listing: the original's, the model's, and the proved one's where its archive is there"
-$judge listing 100000 "$seed"
+echo "--- the whole listing: the original's, the model's and the proved one's"
+$judge listing 100000 "$seed" >../target/differential/listing.log || { cat ../target/differential/listing.log; exit 1; }
+cat ../target/differential/listing.log
+if grep -q 'with the proved listing: 0$' ../target/differential/listing.log; then
+    echo "differential: the proved listing wasn't compared"
+    exit 1
+fi
 
 echo "--- a program against the original"
 $judge run 2000 "$seed" $built/model --many

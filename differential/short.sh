@@ -19,7 +19,7 @@ quiet cargo build --release --offline --workspace
 quiet cargo test --release --offline --workspace
 $built/compare stored
 $built/compare stored $built/model --many
-quiet $built/compare plug 300 25 1000 1 $built/model --many
+quiet $built/compare plug 100 25 1000 1 $built/model --many
 tail -n +1 "$log" | grep -m 4 ' disagreements'
 if $built/compare plug 50 10 100 1 $built/wrong >"$log" 2>&1; then
     echo "differential: the wrong program wasn't caught"

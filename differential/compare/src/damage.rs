@@ -28,11 +28,10 @@ pub fn spoil(rng: &mut Rng, bytes: &mut Vec<u8>) {
 /// Bytes put in at each place.
 const INSERTED: [u8; 5] = [0, 1, 7, 0x80, 0xff];
 
-/// Everything that can happen to one byte of a tape, and each cut: all of it, or as many as `most`.
+/// A cut at every place; and everything that can happen to one byte of a tape: all of it, or as many as `most`.
 pub fn variants(rng: &mut Rng, tape: &[u8], most: usize) -> Vec<Case> {
     let mut kinds = Vec::new();
     for at in 0..=tape.len() {
-        kinds.push((at, Slip::Cut));
         kinds.extend(INSERTED.map(|byte| (at, Slip::Insert(byte))));
         if at < tape.len() {
             kinds.extend((0..8).map(|bit| (at, Slip::Flip(bit))));
@@ -43,6 +42,7 @@ pub fn variants(rng: &mut Rng, tape: &[u8], most: usize) -> Vec<Case> {
     if kinds.len() > most {
         kinds = (0..most).map(|_| rng.pick(&kinds)).collect();
     }
+    kinds.extend((0..=tape.len()).map(|at| (at, Slip::Cut)));
     kinds.iter().map(|(at, slip)| Case::new(slipped(tape, *at, *slip))).collect()
 }
 
