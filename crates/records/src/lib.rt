@@ -455,7 +455,7 @@ fn same_sealed(a: EchPlace, b: EchPlace) -> bool
     }
 }
 
-// Whether two endpoints agree in all that stands in them. Only where they do, and their places differ, are the tables asked.
+// Whether two endpoints agree in port, rank, address and in having ECH at all. Only where they do can the bytes in the tables still part them.
 pub fn same_head(a: Endpoint, b: Endpoint) -> bool
     ensures { λ r. ⌜ r ≡ sameHead a b ⌝ }
 {
