@@ -32,23 +32,15 @@ use Rattle.records.specs.declared.Services.{Services}
 use Rattle.records.specs.declared.Names.{Names}
 use Rattle.records.specs.declared.Host.the-variants as host
 use Rattle.records.specs.declared.Host.{Host}
-use Rattle.records.specs.declared.Target.{Target}
-use Rattle.records.specs.declared.Target.the-variants.{V4, V6, Named}
 use Rattle.records.specs.declared.Source.{Source}
 use Rattle.records.specs.declared.Source.the-variants.{Held6, Held4, Hint6, Hint4, Literal6, Literal4, Name}
 use Rattle.records.specs.declared.Item.{Item}
 use Rattle.listing.specs.Lists.{each, firstOf}
-use Rattle.listing.specs.Items.{familyOf, groupOf}
+use Rattle.listing.specs.Items.{familyOf, groupOf, targetFamily}
 use Rattle.listing.specs.Listing.{prefersSix, byName, one, anyEch, ordered, usable, serviceAt, serviceHeld, serviceRuns, originAt, originParts, originRuns, altAt, altRuns, altsFrom, lastRuns, tierItems, serviceTiers, tiers, dealt, itemsToAttempt}
 use Rattle.listing.proofs.Bounds.{last-le}
 use Rattle.listing.proofs.Appending.{eight-groups, dealt-length}
 use Rattle.listing.proofs.Services.{listing-is, services-few, by-priority-length}
-
--- the family of a target, as document 01 part 3 has it: 0 preferred, 1 the other
-abbrev pub targetFamily : Bool → Target → ℕ
-targetFamily prefer6 (V4 a) = cond prefer6 1 0
-targetFamily prefer6 (V6 h l s) = cond prefer6 0 1
-targetFamily prefer6 (Named p) = 0
 
 literal-six : (b : Bool) (h : Host) → targetFamily b (literalSix h) ≡ cond b 0 1
 literal-six b host.Named = refl
