@@ -151,7 +151,7 @@ module _ (r : Rules) (a : Alts) (q : Queries) (s : Services) (n : Names) (x : It
   unfolding itemsToAttempt
   member-listed t m h = each-mem (dealt r) (tiers r a q s n) t m (dealt-all r x t h)
 
--- The listing depends only on the configuration and the held answers: not on ids, moments, staleness or refreshes, nor on delays.
+-- Of the records the listing reads only what is known of each: not ids, moments, staleness or refreshes (what it reads of the rules: Endpoints).
 -- what counts of a record: its type, its name, whether it is answered, how many addresses it holds
 pub record Known : Type 0 where
   pub kind : Kind
