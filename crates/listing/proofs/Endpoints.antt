@@ -1,5 +1,5 @@
 -- The listing as endpoints: each tier's endpoints interleaved by rank and family of the target, its members, when none of it is left, and what of the
--- rules and records it depends on.
+-- rules and records it depends on; and how many ranks versions give.
 use Prim.Native.Nat.{ℕ, _+_, _≤_}
 use mathlib.Core.Path.{_≡_, refl, sym, ap, _∙_}
 use mathlib.Core.Bool.{Bool, true, false, not, cond, Bool·not-not}
@@ -89,7 +89,7 @@ module _ (r : Rules) (a : Alts) (q : Queries) (d : Answers) (s : Services) (n : 
     all-attempted p x m = sym (Bool·not-not (attempted x)) ∙ ap not (only-if-none (λ y. not (attempted y)) (shownToAttempt r a q d s n e) p x m)
 
 -- the rules without what the listing doesn't read: delays, multiplier and wait
-abbrev pub untimed : Rules → Rules
+abbrev untimed : Rules → Rules
 untimed r = record { host = r .host; port = r .port; versions = r .versions; preference = r .preference; mode = r .mode; ech = r .ech; wait = false; multiplier = 0; resolution = 0; delay = 0 }
 
 module _ (r : Rules) where
