@@ -32,23 +32,15 @@ use Rattle.records.specs.declared.Services.{Services}
 use Rattle.records.specs.declared.Names.{Names}
 use Rattle.records.specs.declared.Host.the-variants as host
 use Rattle.records.specs.declared.Host.{Host}
-use Rattle.records.specs.declared.Target.{Target}
-use Rattle.records.specs.declared.Target.the-variants.{V4, V6, Named}
 use Rattle.records.specs.declared.Source.{Source}
 use Rattle.records.specs.declared.Source.the-variants.{Held6, Held4, Hint6, Hint4, Literal6, Literal4, Name}
 use Rattle.records.specs.declared.Item.{Item}
 use Rattle.listing.specs.Lists.{each, firstOf}
-use Rattle.listing.specs.Items.{familyOf, groupOf}
+use Rattle.listing.specs.Items.{familyOf, groupOf, targetFamily}
 use Rattle.listing.specs.Listing.{prefersSix, byName, one, anyEch, ordered, usable, serviceAt, serviceHeld, serviceRuns, originAt, originParts, originRuns, altAt, altRuns, altsFrom, lastRuns, tierItems, serviceTiers, tiers, dealt, itemsToAttempt}
 use Rattle.listing.proofs.Bounds.{last-le}
 use Rattle.listing.proofs.Appending.{eight-groups, dealt-length}
 use Rattle.listing.proofs.Services.{listing-is, services-few, by-priority-length}
-
--- the family of a target, as document 01 part 3 has it: 0 preferred, 1 the other
-abbrev pub targetFamily : Bool → Target → ℕ
-targetFamily prefer6 (V4 a) = cond prefer6 1 0
-targetFamily prefer6 (V6 h l s) = cond prefer6 0 1
-targetFamily prefer6 (Named p) = 0
 
 literal-six : (b : Bool) (h : Host) → targetFamily b (literalSix h) ≡ cond b 0 1
 literal-six b host.Named = refl
@@ -159,7 +151,7 @@ module _ (r : Rules) (a : Alts) (q : Queries) (s : Services) (n : Names) (x : It
   unfolding itemsToAttempt
   member-listed t m h = each-mem (dealt r) (tiers r a q s n) t m (dealt-all r x t h)
 
--- The listing depends only on the configuration and the held answers: not on ids, moments, staleness or refreshes, nor on delays.
+-- Of the records the listing reads only what is known of each: not ids, moments, staleness or refreshes (what it reads of the rules: Endpoints).
 -- what counts of a record: its type, its name, whether it is answered, how many addresses it holds
 pub record Known : Type 0 where
   pub kind : Kind

@@ -8,4 +8,5 @@ pub mod Sorted
 pub mod Bounds
 pub mod Services
 pub mod Laws
+pub mod Endpoints
 pub mod RecordOrder

@@ -11,6 +11,9 @@ use Rattle.records.specs.declared.EchPlace.{EchPlace}
 use Rattle.records.specs.declared.EchPlace.the-variants.{Without}
 use Rattle.records.specs.declared.Source.{Source}
 use Rattle.records.specs.declared.Source.the-variants.{Held6, Held4, Hint6, Hint4, Literal6, Literal4, Name}
+use Rattle.records.specs.declared.Target.{Target}
+use Rattle.records.specs.declared.Target.the-variants.{V4, V6, Named}
+use Rattle.records.specs.declared.Endpoint.{Endpoint}
 use Rattle.listing.specs.declared.Part.{Part}
 use Rattle.listing.specs.declared.Run.{Run}
 use Rattle.records.specs.declared.Item.{Item}
@@ -31,6 +34,15 @@ familyOf prefer6 (Name w) = 0
 -- "Groups by (rank H3, H2OrH1, H2, H1; preferred family first)", eight in all
 abbrev pub groupOf : Bool → Item → ℕ
 groupOf prefer6 i = dealing.groupOf (rankNumber (i .rank)) (familyOf prefer6 (i .source))
+
+-- the same of an endpoint: the family of its target, and the group of its rank and family
+abbrev pub targetFamily : Bool → Target → ℕ
+targetFamily prefer6 (V4 a) = cond prefer6 1 0
+targetFamily prefer6 (V6 h l s) = cond prefer6 0 1
+targetFamily prefer6 (Named p) = 0
+
+abbrev pub endpointGroup : Bool → Endpoint → ℕ
+endpointGroup prefer6 e = dealing.groupOf (rankNumber (e .rank)) (targetFamily prefer6 (e .target))
 
 -- a run: the first so many places of one source, with one port, rank and ECH place
 abbrev pub itemOf : Run → ℕ → Item
