@@ -1,17 +1,13 @@
 -- A list in a room whose rest is zero: one member more, and reading it back.
-use Prim.Native.Nat.{ℕ, zero, suc, _-_, _≤_, _<_}
+use Prim.Native.Nat.{ℕ, zero, suc, _-_, _<_}
 use mathlib.Core.Path.{_≡_, refl, sym, ap, _∙_}
 use mathlib.Core.List.{List, [], _∷_, _++_, map, append-assoc}
 use native.Mathlib.Omega.{arith}
-use lib.ListN.{length, take, getD, set, replicate, length-append, length-replicate}
+use lib.ListN.{length, take, getD, set, replicate, length-append}
 use lib.Seq.{set-at, take-at}
 use Rattle.listing.specs.Room.{padded}
 
 module _ {A : Type 0} (z : A) where
-  pub padded-length : (n : ℕ) (xs : List A) → length xs ≤ n → length (padded n z xs) ≡ n
-  unfolding padded
-  padded-length n xs h = simp (length-append, length-replicate) (omega arith)
-
   pub padded-set : (n : ℕ) (xs : List A) (v : A) → length xs < n → set (padded n z xs) (length xs) v ≡ padded n z (xs ++ (v ∷ []))
   unfolding padded
   padded-set n xs v h =

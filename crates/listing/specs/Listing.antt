@@ -1,4 +1,10 @@
 -- The listing, document 01 part 4 as the Rust has it (`endpoints_to_attempt`): which endpoints are attempted, and in which order.
+-- Each sentence of part 4 and its definition, from the whole down (docs/DIFFERENCES.md, 1 to 3, has what the Rust corrects):
+--     "Services by priority, stable" ordered; "each interleaved alone" dealt, itemsToAttempt; "skip those without ECH .." anyEch, usable
+--     "Unless so, then alternative services and origin together, interleaved" tiers, lastRuns
+--     (H) "A service's endpoints" serviceHeld, serviceHints, serviceRuns; its versions fromHttpVersions, enabled
+--     (H) "Origin fallback" originParts, originRuns; (H) "A host's addresses" Held.heldAt
+--     "An alternative service" altAt, altRuns; the name of a by-name endpoint is records' connectName
 use Prim.Native.Nat.{ℕ, _+_, min}
 use mathlib.Core.Bool.{Bool, true, false, cond, _&&_}
 use mathlib.Core.List.{List, [], _∷_, _++_, map}
