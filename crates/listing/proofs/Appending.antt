@@ -11,13 +11,13 @@ use Rattle.deal.specs.Interleaving.{interleave, order, Grouped}
 use Rattle.deal.proofs.Laws.{by-order, order-below, length-order, group-below}
 use Rattle.deal.proofs.Answers.{grouped-map, grouped-all}
 use Rattle.records.specs.Numbers.{rankNumber}
-use Rattle.records.specs.declared.Rank.{Rank}
-use Rattle.records.specs.declared.Rank.the-variants as rank
-use Rattle.records.specs.declared.Source.{Source}
-use Rattle.records.specs.declared.Source.the-variants.{Held6, Held4, Hint6, Hint4, Literal6, Literal4, Name}
-use Rattle.listing.specs.declared.Tier.{Tier}
-use Rattle.listing.specs.declared.Places.{Places}
-use Rattle.records.specs.declared.Item.{Item}
+use Rattle.records.specs.declared.endpoints.Rank.{Rank}
+use Rattle.records.specs.declared.endpoints.Rank.the-variants as rank
+use Rattle.records.specs.declared.references.Source.{Source}
+use Rattle.records.specs.declared.references.Source.the-variants.{Held6, Held4, Hint6, Hint4, Literal6, Literal4, Name}
+use Rattle.listing.specs.declared.tier.Undealt.{Undealt}
+use Rattle.listing.specs.declared.tier.DealtOrder.{DealtOrder}
+use Rattle.records.specs.declared.references.Item.{Item}
 use Rattle.listing.specs.declared.Listing.{Listing}
 use Rattle.listing.specs.Items.{noItem, familyOf, groupOf}
 use Rattle.listing.specs.Room.{padded, listed, heldItems, tiered, Appends}
@@ -99,7 +99,7 @@ module _ (prefer6 : Bool) (xs list : List Item) (groups ord : List ℕ) (n : ℕ
       ∙ sym (by-order (groupOf prefer6) xs noItem)
 
 -- the same of a tier in its room
-module _ (prefer6 : Bool) (xs : List Item) (t : Tier) (e : t ≡ tiered prefer6 xs) where
+module _ (prefer6 : Bool) (xs : List Item) (t : Undealt) (e : t ≡ tiered prefer6 xs) where
   pub tier-count : t .count ≡ length xs
   unfolding tiered
   tier-count = ap (λ x. x .count) e
@@ -118,7 +118,7 @@ module _ (prefer6 : Bool) (xs : List Item) (t : Tier) (e : t ≡ tiered prefer6 
   pub tier-grouped : Grouped (take (t .count) (t .groups))
   tier-grouped = rw (first-groups) (all-grouped prefer6 xs)
 
-  module _ (l : Listing) (o : Places) (d : take (t .count) (o .list) ≡ order (take (t .count) (t .groups))) where
+  module _ (l : Listing) (o : DealtOrder) (d : take (t .count) (o .list) ≡ order (take (t .count) (t .groups))) where
     pub may-append : l ≡ listed (heldItems l) → length xs ≤ 80 → l .count + length xs ≤ 272 → Appends l t o
     may-append h few room =
         record {

@@ -13,24 +13,24 @@ use Rattle.deal.proofs.Laws.{natural, group-ext}
 use Rattle.records.specs.Numbers.{rankNumber}
 use Rattle.records.specs.Endpoints.{Shown, shown}
 use Rattle.records.specs.References.{literalAt, targetOf, endpointOf}
-use Rattle.records.specs.declared.Rules.{Rules}
-use Rattle.records.specs.declared.Versions.{Versions}
-use Rattle.records.specs.declared.Host.{Host}
-use Rattle.records.specs.declared.Host.the-variants as host
-use Rattle.records.specs.declared.Alt.{Alt}
-use Rattle.records.specs.declared.Alts.{Alts}
-use Rattle.records.specs.declared.Queries.{Queries}
-use Rattle.records.specs.declared.Answers.{Answers}
-use Rattle.records.specs.declared.Services.{Services}
-use Rattle.records.specs.declared.Names.{Names}
-use Rattle.records.specs.declared.Echs.{Echs}
-use Rattle.records.specs.declared.Endpoint.{Endpoint}
-use Rattle.records.specs.declared.Source.{Source}
-use Rattle.records.specs.declared.Source.the-variants.{Held6, Held4, Hint6, Hint4, Literal6, Literal4, Name}
-use Rattle.records.specs.declared.Item.{Item}
+use Rattle.records.specs.declared.rules.Rules.{Rules}
+use Rattle.records.specs.declared.rules.Versions.{Versions}
+use Rattle.records.specs.declared.rules.Host.{Host}
+use Rattle.records.specs.declared.rules.Host.the-variants as host
+use Rattle.records.specs.declared.rules.Alt.{Alt}
+use Rattle.records.specs.declared.rules.Alts.{Alts}
+use Rattle.records.specs.declared.queries.Queries.{Queries}
+use Rattle.records.specs.declared.queries.Answers.{Answers}
+use Rattle.records.specs.declared.services.Services.{Services}
+use Rattle.listing.specs.Held.{Same}
+use Rattle.records.specs.declared.names.Echs.{Echs}
+use Rattle.records.specs.declared.endpoints.Endpoint.{Endpoint}
+use Rattle.records.specs.declared.references.Source.{Source}
+use Rattle.records.specs.declared.references.Source.the-variants.{Held6, Held4, Hint6, Hint4, Literal6, Literal4, Name}
+use Rattle.records.specs.declared.references.Item.{Item}
 use Rattle.listing.specs.Lists.{each, firstOf}
 use Rattle.listing.specs.Items.{groupOf, endpointGroup}
-use Rattle.listing.specs.Listing.{quic, combined, fromHttpVersions, prefersSix, anyEch, usable, serviceHeld, serviceHints, serviceRuns, originParts, originRuns, altAt, altRuns, altsFrom, lastRuns, tierItems, serviceTiers, tiers, dealt, itemsToAttempt, endpointsToAttempt, shownToAttempt}
+use Rattle.listing.specs.Listing.{quic, combined, fromHttpVersions, prefersSix, anyEch, usable, serviceHeld, serviceHints, serviceRuns, originTargets, originRuns, altTargets, altRuns, altsFrom, lastRuns, tierItems, serviceTiers, tiers, dealt, itemsToAttempt, endpointsToAttempt, shownToAttempt}
 use Rattle.listing.proofs.Rooms.{map-same}
 use Rattle.listing.proofs.Laws.{family-right, none-if, only-if-none, listed-member, member-listed, known, held-only}
 
@@ -60,14 +60,14 @@ module _ (r : Rules) (a : Alts) (d : Answers) (s : Services) where
       ∙ sym (natural (endpointOf r a d s) (endpointGroup b) xs)
 
   -- The listing as endpoints: each tier's endpoints, interleaved alone by (rank, family of the target).
-  pub as-endpoints : (q : Queries) (n : Names) → endpointsToAttempt r a q d s n ≡ each (interleave (endpointGroup (prefersSix (r .preference)))) (map (map (endpointOf r a d s)) (tiers r a q s n))
+  pub as-endpoints : (q : Queries) (n : Same) → endpointsToAttempt r a q d s n ≡ each (interleave (endpointGroup (prefersSix (r .preference)))) (map (map (endpointOf r a d s)) (tiers r a q s n))
   unfolding endpointsToAttempt itemsToAttempt
   as-endpoints q n =
       let f = interleave (endpointGroup (prefersSix (r .preference))) in
       map-each (endpointOf r a d s) (dealt r) (λ xs. f (map (endpointOf r a d s) xs)) tier-endpoints (tiers r a q s n)
       ∙ sym (each-map f (map (endpointOf r a d s)) (tiers r a q s n))
 
-module _ (r : Rules) (a : Alts) (q : Queries) (d : Answers) (s : Services) (n : Names) where
+module _ (r : Rules) (a : Alts) (q : Queries) (d : Answers) (s : Services) (n : Same) where
   -- An endpoint is listed exactly if it is the endpoint of a reference in some tier.
   pub endpoint-from : (x : Endpoint) → List·Memᴰ x (endpointsToAttempt r a q d s n) → (t : List Item) × (i : Item) × List·Memᴰ t (tiers r a q s n) × List·Memᴰ i t × (endpointOf r a d s i ≡ x)
   unfolding endpointsToAttempt
@@ -93,23 +93,23 @@ abbrev untimed : Rules → Rules
 untimed r = record { host = r .host; port = r .port; versions = r .versions; preference = r .preference; mode = r .mode; ech = r .ech; wait = false; multiplier = 0; resolution = 0; delay = 0 }
 
 module _ (r : Rules) where
-  alt-untimed : (q : Queries) (n : Names) (w : ℕ) (h : Host) → altAt r q n w h ≡ altAt (untimed r) q n w h
-  unfolding originParts
+  alt-untimed : (q : Queries) (n : Same) (w : ℕ) (h : Host) → altTargets r q n w h ≡ altTargets (untimed r) q n w h
+  unfolding originTargets
   alt-untimed q n w host.Named = refl
   alt-untimed q n w (host.V4 x) = refl
   alt-untimed q n w (host.V6 x y) = refl
   alt-untimed q n w host.Absent = refl
 
-  alts-untimed : (q : Queries) (n : Names) (i : ℕ) (l : List Alt) → altsFrom r q n i l ≡ altsFrom (untimed r) q n i l
+  alts-untimed : (q : Queries) (n : Same) (i : ℕ) (l : List Alt) → altsFrom r q n i l ≡ altsFrom (untimed r) q n i l
   unfolding altsFrom altRuns
   alts-untimed q n i [] = refl
   alts-untimed q n i (x ∷ l) = rw (alt-untimed q n (i + 1) (x .host), alts-untimed q n (i + 1) l)
 
-  last-untimed : (a : Alts) (q : Queries) (n : Names) → lastRuns r a q n ≡ lastRuns (untimed r) a q n
-  unfolding lastRuns originRuns originParts
+  last-untimed : (a : Alts) (q : Queries) (n : Same) → lastRuns r a q n ≡ lastRuns (untimed r) a q n
+  unfolding lastRuns originRuns originTargets
   last-untimed a q n = ap (λ l. l ++ originRuns r q n) (alts-untimed q n 0 (take (a .count) (a .list)))
 
-  items-untimed : (a : Alts) (q : Queries) (s : Services) (n : Names) → itemsToAttempt r a q s n ≡ itemsToAttempt (untimed r) a q s n
+  items-untimed : (a : Alts) (q : Queries) (s : Services) (n : Same) → itemsToAttempt r a q s n ≡ itemsToAttempt (untimed r) a q s n
   unfolding itemsToAttempt tiers serviceTiers usable dealt serviceRuns serviceHeld serviceHints
   items-untimed a q s n = ap (λ l. each (dealt r) (serviceTiers r q s n ++ cond (anyEch (r .ech) s) [] (tierItems l ∷ []))) (last-untimed a q n)
 
@@ -127,7 +127,7 @@ module _ (r : Rules) where
   unfolding endpointOf
   endpoint-untimed a d s i = λ j. record { target = target-untimed a d s (i .place) (i .source) j; port = i .port; rank = i .rank; ech = i .ech }
 
-  endpoints-untimed : (a : Alts) (q : Queries) (d : Answers) (s : Services) (n : Names) → endpointsToAttempt r a q d s n ≡ endpointsToAttempt (untimed r) a q d s n
+  endpoints-untimed : (a : Alts) (q : Queries) (d : Answers) (s : Services) (n : Same) → endpointsToAttempt r a q d s n ≡ endpointsToAttempt (untimed r) a q d s n
   unfolding endpointsToAttempt
   endpoints-untimed a q d s n =
       ap (map (endpointOf r a d s)) (items-untimed a q s n)
@@ -138,14 +138,14 @@ module _ (r p : Rules) (hosts : r .host ≡ p .host) (ports : r .port ≡ p .por
   untimed-same : untimed r ≡ untimed p
   untimed-same = λ j. record { host = hosts j; port = ports j; versions = versions j; preference = preferences j; mode = modes j; ech = echs j; wait = false; multiplier = 0; resolution = 0; delay = 0 }
 
-  pub rules-only : (a : Alts) (q : Queries) (s : Services) (n : Names) → itemsToAttempt r a q s n ≡ itemsToAttempt p a q s n
+  pub rules-only : (a : Alts) (q : Queries) (s : Services) (n : Same) → itemsToAttempt r a q s n ≡ itemsToAttempt p a q s n
   rules-only a q s n = items-untimed r a q s n ∙ ap (λ x. itemsToAttempt x a q s n) untimed-same ∙ sym (items-untimed p a q s n)
 
-  pub rules-only-endpoints : (a : Alts) (q : Queries) (d : Answers) (s : Services) (n : Names) → endpointsToAttempt r a q d s n ≡ endpointsToAttempt p a q d s n
+  pub rules-only-endpoints : (a : Alts) (q : Queries) (d : Answers) (s : Services) (n : Same) → endpointsToAttempt r a q d s n ≡ endpointsToAttempt p a q d s n
   rules-only-endpoints a q d s n = endpoints-untimed r a q d s n ∙ ap (λ x. endpointsToAttempt x a q d s n) untimed-same ∙ sym (endpoints-untimed p a q d s n)
 
 -- Records of which the same is known list the same, with their bytes too.
-pub held-only-shown : (r : Rules) (a : Alts) (q p : Queries) (d : Answers) (s : Services) (n : Names) (e : Echs) → map known (take (q .count) (q .list)) ≡ map known (take (p .count) (p .list)) → shownToAttempt r a q d s n e ≡ shownToAttempt r a p d s n e
+pub held-only-shown : (r : Rules) (a : Alts) (q p : Queries) (d : Answers) (s : Services) (n : Same) (e : Echs) → map known (take (q .count) (q .list)) ≡ map known (take (p .count) (p .list)) → shownToAttempt r a q d s n e ≡ shownToAttempt r a p d s n e
 unfolding shownToAttempt endpointsToAttempt
 held-only-shown r a q p d s n e same = ap (λ l. map (shown n e) (map (endpointOf r a d s) l)) (held-only n q p same r a s)
 

@@ -16,28 +16,28 @@ use Rattle.deal.proofs.Laws.{interleave-member, inner-order}
 use Rattle.records.specs.References.{targetOf, literalAt, literalSix, literalFour}
 use Rattle.records.specs.Numbers.{kindNumber}
 use Rattle.records.specs.Names.{nameAt, sameName}
-use Rattle.records.specs.declared.Kind.{Kind}
-use Rattle.records.specs.declared.Kind.the-variants.{Aaaa, A}
-use Rattle.records.specs.declared.Alt.{Alt}
-use Rattle.records.specs.declared.Service.{Service}
-use Rattle.listing.specs.declared.Spot.{Spot}
-use Rattle.listing.specs.Held.{answered, holding, isFor, isHeld, firstHeld, heldAt, heldParts}
+use Rattle.records.specs.declared.queries.Kind.{Kind}
+use Rattle.records.specs.declared.queries.Kind.the-variants.{Aaaa, A}
+use Rattle.records.specs.declared.rules.Alt.{Alt}
+use Rattle.records.specs.declared.services.Service.{Service}
+use Rattle.listing.specs.declared.held.Holding.{Holding}
+use Rattle.listing.specs.Held.{answered, heldCount, isFor, isHeld, firstHeld, heldAt, heldTargets}
 use Rattle.listing.proofs.Rooms.{map-same}
-use Rattle.records.specs.declared.Rules.{Rules}
-use Rattle.records.specs.declared.Alts.{Alts}
-use Rattle.records.specs.declared.Query.{Query}
-use Rattle.records.specs.declared.Queries.{Queries}
-use Rattle.records.specs.declared.Answers.{Answers}
-use Rattle.records.specs.declared.Services.{Services}
-use Rattle.records.specs.declared.Names.{Names}
-use Rattle.records.specs.declared.Host.the-variants as host
-use Rattle.records.specs.declared.Host.{Host}
-use Rattle.records.specs.declared.Source.{Source}
-use Rattle.records.specs.declared.Source.the-variants.{Held6, Held4, Hint6, Hint4, Literal6, Literal4, Name}
-use Rattle.records.specs.declared.Item.{Item}
+use Rattle.records.specs.declared.rules.Rules.{Rules}
+use Rattle.records.specs.declared.rules.Alts.{Alts}
+use Rattle.records.specs.declared.queries.Query.{Query}
+use Rattle.records.specs.declared.queries.Queries.{Queries}
+use Rattle.records.specs.declared.queries.Answers.{Answers}
+use Rattle.records.specs.declared.services.Services.{Services}
+use Rattle.listing.specs.Held.{Same}
+use Rattle.records.specs.declared.rules.Host.the-variants as host
+use Rattle.records.specs.declared.rules.Host.{Host}
+use Rattle.records.specs.declared.references.Source.{Source}
+use Rattle.records.specs.declared.references.Source.the-variants.{Held6, Held4, Hint6, Hint4, Literal6, Literal4, Name}
+use Rattle.records.specs.declared.references.Item.{Item}
 use Rattle.listing.specs.Lists.{each, firstOf}
 use Rattle.listing.specs.Items.{familyOf, groupOf, targetFamily}
-use Rattle.listing.specs.Listing.{prefersSix, byName, one, anyEch, ordered, usable, serviceAt, serviceHeld, serviceRuns, originAt, originParts, originRuns, altAt, altRuns, altsFrom, lastRuns, tierItems, serviceTiers, tiers, dealt, itemsToAttempt}
+use Rattle.listing.specs.Listing.{prefersSix, byName, oneTarget, anyEch, ordered, usable, serviceAt, serviceHeld, serviceRuns, originOf, originTargets, originRuns, altTargets, altRuns, altsFrom, lastRuns, tierItems, serviceTiers, tiers, dealt, itemsToAttempt}
 use Rattle.listing.proofs.Bounds.{last-le}
 use Rattle.listing.proofs.Appending.{eight-groups, dealt-length}
 use Rattle.listing.proofs.Services.{listing-is, services-few, by-priority-length}
@@ -73,7 +73,7 @@ unfolding ordered
 ordered-four s e = omega (arith, by-priority-length (map (λ x. x .priority) (take (s .count) (s .list))), length-map (take (s .count) (s .list)) (λ x. x .priority), length-take (s .count) (s .list))
 
 -- at most 272: four services of 48, and 80
-pub at-most-272 : (r : Rules) (a : Alts) (q : Queries) (s : Services) (n : Names) → length (a .list) ≡ 4 → length (s .list) ≡ 4 → length (itemsToAttempt r a q s n) ≤ 272
+pub at-most-272 : (r : Rules) (a : Alts) (q : Queries) (s : Services) (n : Same) → length (a .list) ≡ 4 → length (s .list) ≡ 4 → length (itemsToAttempt r a q s n) ≤ 272
 at-most-272 r a q s n e f =
     rw (listing-is r a q s n, length-append) (omega (arith, services-few r q s n (anyEch (r .ech) s) (ordered s), four-ordered, rest (anyEch (r .ech) s)))
   where
@@ -142,7 +142,7 @@ unfolding each
 each-mem f [] t m h = absurd (List·Memᴰ·not-nil m)
 each-mem {x = x} f (y ∷ l) t m h = ⊎-elim (λ e. Memᴰ·append-left (each f l) (subst (λ u. List·Memᴰ x (f u)) e h)) (λ k. Memᴰ·append-right (f y) (each-mem f l t k h)) (List·Memᴰ·cases-cons m)
 
-module _ (r : Rules) (a : Alts) (q : Queries) (s : Services) (n : Names) (x : Item) where
+module _ (r : Rules) (a : Alts) (q : Queries) (s : Services) (n : Same) (x : Item) where
   pub listed-member : List·Memᴰ x (itemsToAttempt r a q s n) → (t : List Item) × List·Memᴰ t (tiers r a q s n) × List·Memᴰ x t
   unfolding itemsToAttempt
   listed-member m = let w = mem-each (dealt r) (tiers r a q s n) m in (w .0, w .1, dealt-from r x (w .0) (w .2))
@@ -160,43 +160,43 @@ pub record Known : Type 0 where
   pub count : ℕ
 
 abbrev pub known : Query → Known
-known q = record { kind = q .kind; name = q .name; done = answered (q .answer); count = holding (q .count) (q .answer) }
+known q = record { kind = q .kind; name = q .name; done = answered (q .answer); count = heldCount (q .count) (q .answer) }
 
 -- looking for a record in what is known
-found : (Known → Bool) → ℕ → List Known → Spot
+found : (Known → Bool) → ℕ → List Known → Holding
 found test i [] = record { query = 0; count = 0 }
 found test i (k ∷ l) = cond (test k) (record { query = i; count = k .count }) (found test (i + 1) l)
 
 matches : Names → Kind → ℕ → Known → Bool
-matches names kind place k = (eqb (kindNumber (k .kind)) (kindNumber kind) && k .done) && sameName (nameAt names (k .name)) (nameAt names place)
+matches same kind place k = (eqb (kindNumber (k .kind)) (kindNumber kind) && k .done) && sameName (nameAt same (k .name)) (nameAt same place)
 
-found-is : (names : Names) (kind : Kind) (place i : ℕ) (l : List Query) → firstHeld (isHeld names kind place) i l ≡ found (matches names kind place) i (map known l)
+found-is : (same : Same) (kind : Kind) (place i : ℕ) (l : List Query) → firstHeld (isHeld same kind place) i l ≡ found (matches same kind place) i (map known l)
 unfolding firstHeld isHeld found matches
-found-is names kind place i [] = refl
-found-is names kind place i (q ∷ l) = ap (cond (isFor kind (q .kind) (q .answer) && sameName (nameAt names (q .name)) (nameAt names place)) (record { query = i; count = holding (q .count) (q .answer) })) (found-is names kind place (i + 1) l)
+found-is same kind place i [] = refl
+found-is same kind place i (q ∷ l) = ap (cond (isFor kind (q .kind) (q .answer) && sameName (nameAt same (q .name)) (nameAt same place)) (record { query = i; count = heldCount (q .count) (q .answer) })) (found-is same kind place (i + 1) l)
 
-module _ (n : Names) (q p : Queries) (same : map known (take (q .count) (q .list)) ≡ map known (take (p .count) (p .list))) where
+module _ (n : Same) (q p : Queries) (same : map known (take (q .count) (q .list)) ≡ map known (take (p .count) (p .list))) where
   held-same : (kind : Kind) (w : ℕ) → heldAt n q kind w ≡ heldAt n p kind w
   unfolding heldAt
   held-same kind w = found-is n kind w 0 (take (q .count) (q .list)) ∙ ap (found (matches n kind w) 0) same ∙ sym (found-is n kind w 0 (take (p .count) (p .list)))
 
-  parts-same : (w : ℕ) → heldParts n q w ≡ heldParts n p w
-  unfolding heldParts
-  parts-same w = rw (held-same Aaaa w, held-same A w)
+  targets-same : (w : ℕ) → heldTargets n q w ≡ heldTargets n p w
+  unfolding heldTargets
+  targets-same w = rw (held-same Aaaa w, held-same A w)
 
   module _ (r : Rules) where
-    origin-same : originParts r q n ≡ originParts r p n
-    unfolding originParts
+    origin-same : originTargets r q n ≡ originTargets r p n
+    unfolding originTargets
     origin-same = by-host (r .host)
       where
-        by-host : (h : Host) → originAt (byName (r .mode)) q n h ≡ originAt (byName (r .mode)) p n h
-        by-host host.Named = ap (cond (byName (r .mode)) (one (Name 0))) (parts-same 0)
+        by-host : (h : Host) → originOf (byName (r .mode)) q n h ≡ originOf (byName (r .mode)) p n h
+        by-host host.Named = ap (cond (byName (r .mode)) (oneTarget (Name 0))) (targets-same 0)
         by-host (host.V4 x) = refl
         by-host (host.V6 x y) = refl
         by-host host.Absent = refl
 
-    alt-same : (w : ℕ) (h : Host) → altAt r q n w h ≡ altAt r p n w h
-    alt-same w host.Named = ap (cond (byName (r .mode)) (one (Name w))) (parts-same w)
+    alt-same : (w : ℕ) (h : Host) → altTargets r q n w h ≡ altTargets r p n w h
+    alt-same w host.Named = ap (cond (byName (r .mode)) (oneTarget (Name w))) (targets-same w)
     alt-same w (host.V4 x) = refl
     alt-same w (host.V6 x y) = refl
     alt-same w host.Absent = origin-same
@@ -212,7 +212,7 @@ module _ (n : Names) (q p : Queries) (same : map known (take (q .count) (q .list
 
     service-same : (i : ℕ) (s : Service) → serviceRuns r q n i s ≡ serviceRuns r p n i s
     unfolding serviceRuns serviceHeld
-    service-same i s = rw (parts-same (s .name))
+    service-same i s = rw (targets-same (s .name))
 
     pub held-only : (a : Alts) (s : Services) → itemsToAttempt r a q s n ≡ itemsToAttempt r a p s n
     unfolding itemsToAttempt tiers serviceTiers

@@ -9,12 +9,12 @@ use lib.Dec.{leb}
 use lib.ListN.{length, take, drop, getD, length-append, List·getD-append}
 use lib.Seq.{take-suc, take-all, take-at, getD-take}
 use Rattle.deal.specs.Interleaving.{keep, interleave}
-use Rattle.records.specs.declared.Rules.{Rules}
-use Rattle.records.specs.declared.Alts.{Alts}
-use Rattle.records.specs.declared.Queries.{Queries}
-use Rattle.records.specs.declared.Names.{Names}
-use Rattle.records.specs.declared.Service.{Service}
-use Rattle.records.specs.declared.Services.{Services}
+use Rattle.records.specs.declared.rules.Rules.{Rules}
+use Rattle.records.specs.declared.rules.Alts.{Alts}
+use Rattle.records.specs.declared.queries.Queries.{Queries}
+use Rattle.listing.specs.Held.{Same}
+use Rattle.records.specs.declared.services.Service.{Service}
+use Rattle.records.specs.declared.services.Services.{Services}
 use Rattle.records.proofs.Bytes.{take-cut}
 use Rattle.listing.specs.declared.Listing.{Listing}
 use Rattle.listing.specs.Lists.{each, some?, insertAfter, sortedTo, byPriority}
@@ -92,7 +92,7 @@ ordered-room s ps room rest n h e p q w =
     long : length room ≡ n
     long = ap length q ∙ by-priority-length ps ∙ e
 
-module _ (r : Rules) (q : Queries) (s : Services) (n : Names) (sealed : Bool) where
+module _ (r : Rules) (q : Queries) (s : Services) (n : Same) (sealed : Bool) where
   -- one service more
   pub services-none : servicesItems r q s n sealed [] ≡ []
   unfolding servicesItems each
@@ -120,12 +120,12 @@ module _ (r : Rules) (q : Queries) (s : Services) (n : Names) (sealed : Bool) wh
   services-few (k ∷ ks) = omega (arith, length-append (serviceItems r q s n sealed k) (each (serviceItems r q s n sealed) ks), service-few k, services-few ks)
 
 -- what the code has listed after k services
-pub record Serving (r : Rules) (q : Queries) (s : Services) (n : Names) (sealed : Bool) (ks : List ℕ) (k : ℕ) (l : Listing) : Type 0 where
+pub record Serving (r : Rules) (q : Queries) (s : Services) (n : Same) (sealed : Bool) (ks : List ℕ) (k : ℕ) (l : Listing) : Type 0 where
   pub within : k ≤ 4
   pub holds : l ≡ listed (servicesItems r q s n sealed (take k ks))
   pub few : length (servicesItems r q s n sealed (take k ks)) ≤ 48 * k
 
-module _ (r : Rules) (q : Queries) (s : Services) (n : Names) (sealed : Bool) (ks : List ℕ) where
+module _ (r : Rules) (q : Queries) (s : Services) (n : Same) (sealed : Bool) (ks : List ℕ) where
   pub serving-none : (l : Listing) → l ≡ listed [] → Serving r q s n sealed ks 0 l
   serving-none l e = record { within = omega arith; holds = e ∙ ap listed (sym (services-none r q s n sealed)); few = rw (services-none r q s n sealed) (omega arith) }
 
@@ -166,7 +166,7 @@ each-kept {B} test h g (k ∷ ks) = either (test k) refl (each-kept test h g ks)
     either true e ih = rw (e) (ap (λ l. g (h k) ++ l) ih)
     either false e ih = rw (e) ih
 
-module _ (r : Rules) (a : Alts) (q : Queries) (s : Services) (n : Names) where
+module _ (r : Rules) (a : Alts) (q : Queries) (s : Services) (n : Same) where
   services-are : servicesItems r q s n (anyEch (r .ech) s) (ordered s) ≡ each (dealt r) (serviceTiers r q s n)
   unfolding servicesItems serviceItems serviceTiers usable
   services-are = each-kept (isUsable (anyEch (r .ech) s) s) (λ i. tierItems (serviceRuns r q n i (serviceAt s i))) (dealt r) (ordered s)

@@ -9,13 +9,13 @@ use lib.ListN.{length, take, drop, getD, set, length-append, length-map, List·g
 use lib.Seq.{take-suc, split-at, take-all}
 use Rattle.deal.specs.Interleaving.{upto}
 use Rattle.deal.proofs.Laws.{length-upto}
-use Rattle.records.specs.declared.Rank.the-variants as rank
-use Rattle.records.specs.declared.EchPlace.the-variants.{Without}
-use Rattle.records.specs.declared.Source.the-variants.{Held6}
-use Rattle.listing.specs.declared.Run.{Run}
-use Rattle.records.specs.declared.Item.{Item}
+use Rattle.records.specs.declared.endpoints.Rank.the-variants as rank
+use Rattle.records.specs.declared.names.EchPlace.the-variants.{Without}
+use Rattle.records.specs.declared.references.Source.the-variants.{Held6}
+use Rattle.listing.specs.declared.tier.Run.{Run}
+use Rattle.records.specs.declared.references.Item.{Item}
 use Rattle.listing.specs.Lists.{each}
-use Rattle.listing.specs.declared.Tier.{Tier}
+use Rattle.listing.specs.declared.tier.Undealt.{Undealt}
 use Rattle.listing.specs.Items.{noItem, groupOf, itemOf, runItems}
 use Rattle.listing.specs.Room.{padded, tiered}
 use Rattle.listing.proofs.Rooms.{padded-set}
@@ -104,7 +104,7 @@ pub record Filling (prefer6 : Bool) (runs : List Run) (r p at : ℕ) (list : Lis
   pub items : list ≡ padded 80 noItem (before runs r p)
   pub grouped : groups ≡ padded 80 0 (map (groupOf prefer6) (before runs r p))
 
-pub filling-none : (prefer6 : Bool) (runs : List Run) (t : Tier) → t ≡ tiered false [] → Filling prefer6 runs 0 0 0 (t .list) (t .groups)
+pub filling-none : (prefer6 : Bool) (runs : List Run) (t : Undealt) → t ≡ tiered false [] → Filling prefer6 runs 0 0 0 (t .list) (t .groups)
 unfolding tiered
 filling-none prefer6 runs t e =
     record {

@@ -4,12 +4,12 @@ use borrow.Author.Tests.{lt-ltb, le-ltb}
 use Prim.Native.Nat.{_+_}
 use mathlib.Core.Bool.{false}
 use lib.ListN.{getD}
-use Rattle.records.specs.declared.EchPlace.the-variants.{Without}
-use Rattle.records.specs.declared.Rank.the-variants.{H3}
+use Rattle.records.specs.declared.names.EchPlace.the-variants.{Without}
+use Rattle.records.specs.declared.endpoints.Rank.the-variants.{H3}
 use Rattle.records.specs.References.{noAlt}
-use Rattle.listing.specs.Listing.{nothing, isEnabled, rankOf, portOr, altAt, altRuns, tierItems}
-use Rattle.listing.specs.Room.{altRunsAt, lotList}
-use Rattle.listing.proofs.Shapes.{lot-if}
+use Rattle.listing.specs.Listing.{nothing, isEnabled, rankOf, portOr, altTargets, altRuns, tierItems}
+use Rattle.listing.specs.Room.{altRunsAt, bothRuns}
+use Rattle.listing.proofs.Shapes.{runs-if}
 use borrow.Author.Needs.{needs}
 use Rattle.listing.proofs.alt_lot.Statement.{statement}
 use Rattle.listing.proofs.alt_lot.Tie as tie
@@ -19,7 +19,7 @@ no-lot-requires c κs = search needs
 
 returns : tie.Need-returns
 unfolding altRunsAt
-returns c = ap (λ x. tierItems (lotList x)) (c .no-lot .ensures) ∙ rw (le-ltb _ _ (c .before .if1 .taken)) (lot-if false nothing 0 Without H3)
+returns c = ap (λ x. tierItems (bothRuns x)) (c .no-lot .ensures) ∙ rw (le-ltb _ _ (c .before .if1 .taken)) (runs-if false nothing 0 Without H3)
 
 mul-a : tie.Need-mul-a
 mul-a c = search needs
@@ -55,9 +55,9 @@ returns-2 c =
     let el = is .before .before .before in
     let g = el .before .args in
     let x = getD (g .t4 .list) (g .i) noAlt in
-    ap (λ y. tierItems (lotList y)) (c .lot-of .ensures)
+    ap (λ y. tierItems (bothRuns y)) (c .lot-of .ensures)
     ∙ rw (lt-ltb _ _ (el .if1 .left), ra .rank-of .ensures, po .port-or .ensures, al .alt-at .ensures, is .is-enabled .ensures)
-    (lot-if (isEnabled (g .r .versions) (x .version)) (altAt (g .r) (g .queries) (g .names) (g .i + 1) (x .host)) (portOr (g .r .port) (x .port)) Without (rankOf (x .version)))
+    (runs-if (isEnabled (g .r .versions) (x .version)) (altTargets (g .r) (g .queries) (g .same) (g .i + 1) (x .host)) (portOr (g .r .port) (x .port)) Without (rankOf (x .version)))
 
 pub alt-lot-spec : {M : Type 1} → statement M
 alt-lot-spec =

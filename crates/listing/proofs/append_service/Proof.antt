@@ -30,7 +30,7 @@ append-tier-requires c κs =
     let v = c .before in
     let s = v .before .before .before .before in
     let e = ap length (v .service-runs .ensures) in
-    let k = service-le (s .args .r) (s .args .queries) (s .args .names) (s .args .i) (serviceAt (s .args .t5) (s .args .i)) in
+    let k = service-le (s .args .r) (s .args .queries) (s .args .same) (s .args .i) (serviceAt (s .args .t5) (s .args .i)) in
     (s .pre .0, omega (arith, e, k), omega (arith, e, k, s .pre .1))
 
 returns : tie.Need-returns

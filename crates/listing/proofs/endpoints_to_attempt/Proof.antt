@@ -30,7 +30,7 @@ returns : tie.Need-returns
 returns c =
     let v = c .before in
     let a = v .before .before .before .args in
-    v .service-listing .ensures .0 ∙ ap listed (rw (shut (v .before)) (sym (listing-is (a .rules) (a .alts) (a .queries) (a .services) (a .names) ∙ rw (← shut (v .before), c .if1 .taken) (append-nil _))))
+    v .service-listing .ensures .0 ∙ ap listed (rw (shut (v .before)) (sym (listing-is (a .rules) (a .alts) (a .queries) (a .services) (a .same) ∙ rw (← shut (v .before), c .if1 .taken) (append-nil _))))
 
 last-runs-requires : tie.Need-last-runs-requires
 last-runs-requires c κs = search needs
@@ -46,7 +46,7 @@ append-tier-requires c κs =
     let a = s .args in
     let four : length (a .alts .list) ≡ 4 = simp length-map at (s .good .1 .0 .1 .1 .1 .0 .1 .0 .1) in
     let e = ap length (u .last-runs .ensures) in
-    let k = last-le (a .rules) (a .alts) (a .queries) (a .names) four in
+    let k = last-le (a .rules) (a .alts) (a .queries) (a .same) four in
     let g = listed-again _ _ (v .service-listing .ensures .0) in
     let n = held-count _ g in
     let m = ap length (ap heldItems (v .service-listing .ensures .0) ∙ held-listed _) in
@@ -61,7 +61,7 @@ returns-2 c =
     let a = v .before .before .before .args in
     let h = ap heldItems (v .service-listing .ensures .0) ∙ held-listed _ in
     c .append-tier .ensures
-    ∙ ap listed (rw (h, p .prefers-six .ensures, u .last-runs .ensures, shut (v .before)) (sym (listing-is (a .rules) (a .alts) (a .queries) (a .services) (a .names) ∙ rw (← shut (v .before), u .before .if1 .left))))
+    ∙ ap listed (rw (h, p .prefers-six .ensures, u .last-runs .ensures, shut (v .before)) (sym (listing-is (a .rules) (a .alts) (a .queries) (a .services) (a .same) ∙ rw (← shut (v .before), u .before .if1 .left))))
 
 pub endpoints-to-attempt-spec : {M : Type 1} → statement M
 endpoints-to-attempt-spec =

@@ -4,8 +4,8 @@ use mathlib.Core.Path.{_≡_}
 use mathlib.Core.Bool.{Bool, true, false}
 use mathlib.Core.List.{_∷_}
 use native.Mathlib.Omega.{arith}
-use Rattle.records.specs.declared.Rank.the-variants as rank
-use Rattle.listing.specs.declared.Ranks.{Ranks}
+use Rattle.records.specs.declared.endpoints.Rank.the-variants as rank
+use Rattle.listing.specs.declared.versions.Ranks.{Ranks}
 use Rattle.listing.specs.Listing.{combined, fromHttpVersions}
 use Rattle.listing.specs.Room.{ranked}
 use borrow.Author.Needs.{needs}

@@ -11,10 +11,10 @@ use Rattle.listing.proofs.held_at.Statement.{statement}
 use Rattle.listing.proofs.held_at.Tie as tie
 
 abbrev Inv-loop : tie.InvT-loop
-Inv-loop names kind place queries n i₀ i = (i ≤ 16) × (firstHeld (isHeld names kind place) i (drop i (take n (queries .list))) ≡ heldAt names queries kind place)
+Inv-loop same kind place queries n i₀ i = (i ≤ 16) × (firstHeld (isHeld same kind place) i (drop i (take n (queries .list))) ≡ heldAt same queries kind place)
 
 abbrev μ-loop : tie.MeasureT-loop
-μ-loop names kind place queries n i₀ i = 16 - i
+μ-loop same kind place queries n i₀ i = 16 - i
 
 -- there are 16 places for records
 has : (c : tie.Start Inv-loop μ-loop) → length (c .args .t2 .list) ≡ 16
@@ -55,7 +55,7 @@ returns-2 c =
     let a = h .before .args in
     let k : h .loop .i < length (a .t2 .list) = omega (arith, has (h .before)) in
     held-here _ (a .t2 .count) (a .t2 .list) (h .loop .i) _ (h .loop .inv .1) (f .before .before .if1 .left) k
-    (for-named (a .names) (a .kind) (a .place) (getD (a .t2 .list) (h .loop .i) noQuery) _ (f .is-for .ensures) _ _ (c .before .before .before .if2 .taken) (c .before .before .same-place .ensures) (c .before .if3 .taken)) _ (c .holding-of .ensures)
+    (for-named (a .same) (a .kind) (a .place) (getD (a .t2 .list) (h .loop .i) noQuery) _ (f .is-for .ensures) _ _ (c .before .before .before .if2 .taken) (c .before .before .same-place .ensures) (c .before .if3 .taken)) _ (c .holding-of .ensures)
 
 add-i : tie.Need-add-i Inv-loop μ-loop
 add-i c = search needs
@@ -70,7 +70,7 @@ loop-again c =
     let a = h .before .args in
     let k : h .loop .i < length (a .t2 .list) = omega (arith, has (h .before)) in
     let x = getD (a .t2 .list) (h .loop .i) noQuery in
-    (omega arith, held-more _ (a .t2 .count) (a .t2 .list) (h .loop .i) _ (h .loop .inv .1) (f .before .before .if1 .left) k (⊎-elim (λ w. for-named (a .names) (a .kind) (a .place) x _ (f .is-for .ensures) _ _ (w .0 .taken) (w .1 .ensures) (w .2 .left)) (λ w. not-for (a .names) (a .kind) (a .place) x _ (f .is-for .ensures) (w .left)) (c .if2 .came)))
+    (omega arith, held-more _ (a .t2 .count) (a .t2 .list) (h .loop .i) _ (h .loop .inv .1) (f .before .before .if1 .left) k (⊎-elim (λ w. for-named (a .same) (a .kind) (a .place) x _ (f .is-for .ensures) _ _ (w .0 .taken) (w .1 .ensures) (w .2 .left)) (λ w. not-for (a .same) (a .kind) (a .place) x _ (f .is-for .ensures) (w .left)) (c .if2 .came)))
 
 returns-3 : tie.Need-returns-3 Inv-loop μ-loop
 returns-3 c =

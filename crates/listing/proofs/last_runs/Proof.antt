@@ -2,7 +2,7 @@
 use mathlib.Core.Path.{_≡_, _∙_, ap, sym}
 use lib.ListN.{length, length-map}
 use Rattle.listing.specs.Listing.{tierItems}
-use Rattle.listing.specs.Room.{lotList}
+use Rattle.listing.specs.Room.{bothRuns}
 use Rattle.listing.proofs.Shapes.{five, last-five}
 use borrow.Author.Needs.{needs}
 use Rattle.listing.proofs.last_runs.Statement.{statement}
@@ -36,7 +36,7 @@ returns c =
     let s = a .before in
     let e : length (s .args .alts .list) ≡ 4 = simp length-map at (s .good .1 .0 .1 .1 .1 .0 .1 .0 .1) in
     ap tierItems (c .runs-of .ensures)
-    ∙ five (lotList (a .alt-lot .result)) (lotList (b .alt-lot2 .result)) (lotList (f .alt-lot3 .result)) (lotList (d .alt-lot4 .result)) (lotList (o .origin-lot .result))
+    ∙ five (bothRuns (a .alt-lot .result)) (bothRuns (b .alt-lot2 .result)) (bothRuns (f .alt-lot3 .result)) (bothRuns (d .alt-lot4 .result)) (bothRuns (o .origin-lot .result))
     ∙ rw (a .alt-lot .ensures, b .alt-lot2 .ensures, f .alt-lot3 .ensures, d .alt-lot4 .ensures, o .origin-lot .ensures) (sym (last-five _ _ _ _ e))
 
 pub last-runs-spec : {M : Type 1} → statement M

@@ -1,7 +1,7 @@
 -- `listing::origin_lot` meets its contract.
 use mathlib.Core.Path.{_∙_, ap}
 use Rattle.listing.specs.Listing.{originRuns, fromHttpVersions, tierItems}
-use Rattle.listing.specs.Room.{lotList}
+use Rattle.listing.specs.Room.{bothRuns}
 use Rattle.listing.proofs.Shapes.{at-rank}
 use borrow.Author.Needs.{needs}
 use Rattle.listing.proofs.origin_lot.Statement.{statement}
@@ -22,7 +22,7 @@ returns c =
     let or = c .before in
     let co = or .before .before in
     let s = co .before .before in
-    ap (λ x. tierItems (lotList x)) (c .lot-of .ensures) ∙ rw (or .origin-parts .ensures) (at-rank (s .args .r .versions .h2) (s .args .r .versions .h1) _ _ _ _ (co .combine .ensures))
+    ap (λ x. tierItems (bothRuns x)) (c .lot-of .ensures) ∙ rw (or .origin-parts .ensures) (at-rank (s .args .r .versions .h2) (s .args .r .versions .h1) _ _ _ _ (co .combine .ensures))
 
 pub origin-lot-spec : {M : Type 1} → statement M
 origin-lot-spec =

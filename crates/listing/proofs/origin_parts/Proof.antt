@@ -1,5 +1,5 @@
 -- `listing::origin_parts` meets its contract, by the host's case.
-use Rattle.listing.specs.Listing.{originParts}
+use Rattle.listing.specs.Listing.{originTargets}
 use borrow.Author.Needs.{needs}
 use Rattle.listing.proofs.origin_parts.Statement.{statement}
 use Rattle.listing.proofs.origin_parts.Tie as tie
@@ -14,7 +14,7 @@ one-of-requires : tie.Need-one-of-requires
 one-of-requires c κs = search needs
 
 returns : tie.Need-returns
-unfolding originParts
+unfolding originTargets
 returns c =
     let b = c .before .before in
     rw (b .before .enum-told .given .1, ← b .by-name .ensures, c .before .if1 .taken) (c .one-of .ensures)
@@ -41,21 +41,21 @@ nothing-of-requires : tie.Need-nothing-of-requires
 nothing-of-requires c κs = search needs
 
 returns-2 : tie.Need-returns-2
-unfolding originParts
+unfolding originTargets
 returns-2 c =
     let b = c .before .before in
     rw (b .before .enum-told .given .1, ← b .by-name .ensures, c .before .if1 .left) (c .held-parts .ensures)
 
 returns-3 : tie.Need-returns-3
-unfolding originParts
+unfolding originTargets
 returns-3 c = rw (c .before .enum-told2 .given .1) (c .one-of2 .ensures)
 
 returns-4 : tie.Need-returns-4
-unfolding originParts
+unfolding originTargets
 returns-4 c = rw (c .before .enum-told3 .given .1) (c .one-of3 .ensures)
 
 returns-5 : tie.Need-returns-5
-unfolding originParts
+unfolding originTargets
 returns-5 c = rw (c .before .enum-told4 .given .1) (c .nothing-of .ensures)
 
 pub origin-parts-spec : {M : Type 1} → statement M

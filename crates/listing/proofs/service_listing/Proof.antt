@@ -10,10 +10,10 @@ use Rattle.listing.proofs.service_listing.Statement.{statement}
 use Rattle.listing.proofs.service_listing.Tie as tie
 
 abbrev Inv-loop : tie.InvT-loop
-Inv-loop r queries services names sealed o n l₀ k₀ l k = Serving r queries services names sealed (ordered services) k l
+Inv-loop r queries services same sealed o n l₀ k₀ l k = Serving r queries services same sealed (ordered services) k l
 
 abbrev μ-loop : tie.MeasureT-loop
-μ-loop r queries services names sealed o n l₀ k₀ l k = 4 - k
+μ-loop r queries services same sealed o n l₀ k₀ l k = 4 - k
 
 service-order-requires : tie.Need-service-order-requires Inv-loop μ-loop
 service-order-requires c κs = search needs
@@ -24,14 +24,14 @@ no-listing-requires c κs = search needs
 loop-holds : tie.Need-loop-holds Inv-loop μ-loop
 loop-holds c =
     let a = c .before .before .args in
-    serving-none (a .r) (a .queries) (a .services) (a .names) (a .sealed) _ _ (c .no-listing .ensures)
+    serving-none (a .r) (a .queries) (a .services) (a .same) (a .sealed) _ _ (c .no-listing .ensures)
 
 returns : tie.Need-returns Inv-loop μ-loop
 returns c =
     let h = c .before .before in
     let o = h .before .before in
     let a = o .before .args in
-    serving-end (a .r) (a .queries) (a .services) (a .names) (a .sealed) (ordered (a .services)) (h .loop .k) (h .loop .l) (h .loop .inv) _ _ (o .service-order .ensures) (c .if1 .taken)
+    serving-end (a .r) (a .queries) (a .services) (a .same) (a .sealed) (ordered (a .services)) (h .loop .k) (h .loop .l) (h .loop .inv) _ _ (o .service-order .ensures) (c .if1 .taken)
 
 element-copy-out-i : tie.Need-element-copy-out-i Inv-loop μ-loop
 element-copy-out-i c = search needs
@@ -41,7 +41,7 @@ append-service-requires c κs =
     let h = c .before .before .before in
     let o = h .before .before in
     let a = o .before .args in
-    let n = serving-count (a .r) (a .queries) (a .services) (a .names) (a .sealed) (ordered (a .services)) (h .loop .k) (h .loop .l) (h .loop .inv) in
+    let n = serving-count (a .r) (a .queries) (a .services) (a .same) (a .sealed) (ordered (a .services)) (h .loop .k) (h .loop .l) (h .loop .inv) in
     (listed-again _ _ (h .loop .inv .holds), omega (arith, n, c .before .before .loop-test .taken), o .service-order .ensures .within (h .loop .k) (c .before .if1 .left))
 
 add-k : tie.Need-add-k Inv-loop μ-loop
@@ -55,14 +55,14 @@ loop-again c =
     let h = c .before .before .before .before in
     let o = h .before .before in
     let a = o .before .args in
-    serving-more (a .r) (a .queries) (a .services) (a .names) (a .sealed) (ordered (a .services)) (h .loop .k) (h .loop .l) (h .loop .inv) _ _ _ _ (o .service-order .ensures) (c .before .before .if1 .left) refl (c .append-service .ensures)
+    serving-more (a .r) (a .queries) (a .services) (a .same) (a .sealed) (ordered (a .services)) (h .loop .k) (h .loop .l) (h .loop .inv) _ _ _ _ (o .service-order .ensures) (c .before .before .if1 .left) refl (c .append-service .ensures)
 
 returns-2 : tie.Need-returns-2 Inv-loop μ-loop
 returns-2 c =
     let h = c .before in
     let o = h .before .before in
     let a = o .before .args in
-    serving-end (a .r) (a .queries) (a .services) (a .names) (a .sealed) (ordered (a .services)) (h .loop .k) (h .loop .l) (h .loop .inv) _ _ (o .service-order .ensures) (omega (arith, o .service-order .ensures .few, c .loop-test .left))
+    serving-end (a .r) (a .queries) (a .services) (a .same) (a .sealed) (ordered (a .services)) (h .loop .k) (h .loop .l) (h .loop .inv) _ _ (o .service-order .ensures) (omega (arith, o .service-order .ensures .few, c .loop-test .left))
 
 pub service-listing-spec : {M : Type 1} → statement M
 service-listing-spec =
