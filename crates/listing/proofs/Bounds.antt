@@ -10,12 +10,18 @@ use Rattle.records.specs.declared.rules.Alt.{Alt}
 use Rattle.records.specs.declared.rules.Alts.{Alts}
 use Rattle.records.specs.declared.queries.Query.{Query}
 use Rattle.records.specs.declared.queries.Queries.{Queries}
-use Rattle.listing.specs.Held.{Same}
+use Rattle.listing.specs.Held.{Same, heldCount, firstHeld, heldAt, heldTargets}
+use Rattle.records.specs.Lists.{each}
+use Rattle.listing.specs.Items.{run}
+use Rattle.listing.specs.Listing.{quic, combined, fromHttpVersions, enabled, isEnabled, rankOf, portOr, echIf, serviceByName, hostRuns, serviceHeld, serviceHints, serviceRuns, originOf, ownTargets, originTargets, originRuns, altTargets, altRuns, altsFrom, lastRuns, tierItems}
+use Rattle.records.specs.Rules.{byName, allowsSix, allowsFour}
 use Rattle.records.specs.declared.services.Service.{Service}
 use Rattle.records.specs.declared.queries.Answer.{Answer}
 use Rattle.records.specs.declared.queries.Answer.the-variants.{Pending, Failed, Held}
 use Rattle.records.specs.declared.queries.Kind.{Kind}
 use Rattle.records.specs.declared.queries.Kind.the-variants.{Aaaa, A}
+use Rattle.records.specs.declared.rules.AltHost.{AltHost}
+use Rattle.records.specs.declared.rules.AltHost.the-variants as alt
 use Rattle.records.specs.declared.rules.Host.{Host}
 use Rattle.records.specs.declared.rules.Host.the-variants as host
 use Rattle.records.specs.declared.endpoints.Rank.{Rank}
@@ -24,10 +30,6 @@ use Rattle.records.specs.declared.names.EchPlace.{EchPlace}
 use Rattle.records.specs.declared.names.EchPlace.the-variants.{Without}
 use Rattle.listing.specs.declared.hosts.HostTargets.{HostTargets}
 use Rattle.listing.specs.declared.tier.Run.{Run}
-use Rattle.listing.specs.Lists.{each}
-use Rattle.listing.specs.Items.{run}
-use Rattle.listing.specs.Held.{heldCount, firstHeld, heldAt, heldTargets}
-use Rattle.listing.specs.Listing.{quic, combined, fromHttpVersions, enabled, isEnabled, rankOf, portOr, echIf, byName, allowsSix, allowsFour, serviceByName, hostRuns, serviceHeld, serviceHints, serviceRuns, originOf, originTargets, originRuns, altTargets, altRuns, altsFrom, lastRuns, tierItems}
 use Rattle.listing.proofs.Tiers.{items-append, run-length, head-length}
 
 -- how many endpoints a pair of parts has
@@ -44,18 +46,18 @@ runs-size x port ech k =
     let b = run (x .second) port k ech in
     omega (arith, head-length a (b ∷ []), head-length b [], run-length a, run-length b, none-left)
 
-holding-le : (n : ℕ) (a : Answer) → heldCount n a ≤ 8
-holding-le n Pending = omega arith
-holding-le n (Failed t) = omega arith
-holding-le n (Held t) = omega arith
+count-le : (a : Answer) → heldCount a ≤ 8
+count-le Pending = omega arith
+count-le (Failed t) = omega arith
+count-le (Held t n) = omega arith
 
 held-le : (test : Query → Bool) (i : ℕ) (l : List Query) → firstHeld test i l .count ≤ 8
 unfolding firstHeld
 held-le test i [] = omega arith
 held-le test i (q ∷ l) = either (test q) (held-le test (i + 1) l)
   where
-    either : (b : Bool) → firstHeld test (i + 1) l .count ≤ 8 → cond b (record { query = i; count = heldCount (q .count) (q .answer) }) (firstHeld test (i + 1) l) .count ≤ 8
-    either true h = holding-le (q .count) (q .answer)
+    either : (b : Bool) → firstHeld test (i + 1) l .count ≤ 8 → cond b (record { query = i; count = heldCount (q .answer) }) (firstHeld test (i + 1) l) .count ≤ 8
+    either true h = count-le (q .answer)
     either false h = h
 
 held-at-le : (n : Same) (q : Queries) (k : Kind) (w : ℕ) → heldAt n q k w .count ≤ 8
@@ -90,13 +92,15 @@ origin-size r q n = by-host (r .host)
     by-host host.Named = either-size (byName (r .mode)) _ _ 16 (omega arith) (held-size n q 0)
     by-host (host.V4 x) = omega arith
     by-host (host.V6 a b) = omega arith
-    by-host host.Absent = omega arith
 
-alt-size : (r : Rules) (q : Queries) (n : Same) (w : ℕ) (h : Host) → size (altTargets r q n w h) ≤ 16
-alt-size r q n w host.Named = either-size (byName (r .mode)) _ _ 16 (omega arith) (held-size n q w)
-alt-size r q n w (host.V4 x) = either-size (allowsFour (r .preference)) _ _ 16 (omega arith) (omega arith)
-alt-size r q n w (host.V6 a b) = either-size (allowsSix (r .preference)) _ _ 16 (omega arith) (omega arith)
-alt-size r q n w host.Absent = origin-size r q n
+own-size : (r : Rules) (q : Queries) (n : Same) (w : ℕ) (h : Host) → size (ownTargets r q n w h) ≤ 16
+own-size r q n w host.Named = either-size (byName (r .mode)) _ _ 16 (omega arith) (held-size n q w)
+own-size r q n w (host.V4 x) = either-size (allowsFour (r .preference)) _ _ 16 (omega arith) (omega arith)
+own-size r q n w (host.V6 a b) = either-size (allowsSix (r .preference)) _ _ 16 (omega arith) (omega arith)
+
+alt-size : (r : Rules) (q : Queries) (n : Same) (w : ℕ) (h : AltHost) → size (altTargets r q n w h) ≤ 16
+alt-size r q n w alt.Origin = origin-size r q n
+alt-size r q n w (alt.Own h) = own-size r q n w h
 
 -- at most two ranks, of at most m endpoints each
 each-next : (f : Rank → List Run) (k : Rank) (l : List Rank) → length (tierItems (each f (k ∷ l))) ≡ length (tierItems (f k)) + length (tierItems (each f l))

@@ -15,44 +15,43 @@ use Rattle.deal.proofs.Lists.{mem-keep}
 use Rattle.deal.proofs.Laws.{interleave-member, inner-order}
 use Rattle.records.specs.References.{targetOf, literalAt, literalSix, literalFour}
 use Rattle.records.specs.Numbers.{kindNumber}
-use Rattle.records.specs.Names.{nameAt, sameName}
+use Rattle.records.specs.Queries.{answered}
+use Rattle.listing.specs.Held.{heldCount, isFor, isHeld, firstHeld, heldAt, heldTargets, Same}
+use Rattle.records.specs.Lists.{each, firstOf}
+use Rattle.listing.specs.Items.{familyOf, groupOf, targetFamily}
+use Rattle.records.specs.Rules.{prefersSix, byName}
+use Rattle.listing.specs.Listing.{oneTarget, ordered, usable, serviceAt, serviceHeld, serviceRuns, originOf, ownTargets, originTargets, originRuns, altTargets, altRuns, altsFrom, lastRuns, tierItems, serviceTiers, tiers, dealt, itemsToAttempt}
+use Rattle.records.specs.Services.{anyEch}
 use Rattle.records.specs.declared.queries.Kind.{Kind}
 use Rattle.records.specs.declared.queries.Kind.the-variants.{Aaaa, A}
 use Rattle.records.specs.declared.rules.Alt.{Alt}
 use Rattle.records.specs.declared.services.Service.{Service}
 use Rattle.listing.specs.declared.held.Holding.{Holding}
-use Rattle.listing.specs.Held.{answered, heldCount, isFor, isHeld, firstHeld, heldAt, heldTargets}
-use Rattle.listing.proofs.Rooms.{map-same}
+use Rattle.records.proofs.Rooms.{map-same}
 use Rattle.records.specs.declared.rules.Rules.{Rules}
 use Rattle.records.specs.declared.rules.Alts.{Alts}
 use Rattle.records.specs.declared.queries.Query.{Query}
 use Rattle.records.specs.declared.queries.Queries.{Queries}
 use Rattle.records.specs.declared.queries.Answers.{Answers}
 use Rattle.records.specs.declared.services.Services.{Services}
-use Rattle.listing.specs.Held.{Same}
 use Rattle.records.specs.declared.rules.Host.the-variants as host
 use Rattle.records.specs.declared.rules.Host.{Host}
+use Rattle.records.specs.declared.rules.AltHost.{AltHost}
+use Rattle.records.specs.declared.rules.AltHost.the-variants as alt
 use Rattle.records.specs.declared.references.Source.{Source}
 use Rattle.records.specs.declared.references.Source.the-variants.{Held6, Held4, Hint6, Hint4, Literal6, Literal4, Name}
 use Rattle.records.specs.declared.references.Item.{Item}
-use Rattle.listing.specs.Lists.{each, firstOf}
-use Rattle.listing.specs.Items.{familyOf, groupOf, targetFamily}
-use Rattle.listing.specs.Listing.{prefersSix, byName, oneTarget, anyEch, ordered, usable, serviceAt, serviceHeld, serviceRuns, originOf, originTargets, originRuns, altTargets, altRuns, altsFrom, lastRuns, tierItems, serviceTiers, tiers, dealt, itemsToAttempt}
-use Rattle.listing.proofs.Bounds.{last-le}
-use Rattle.listing.proofs.Appending.{eight-groups, dealt-length}
-use Rattle.listing.proofs.Services.{listing-is, services-few, by-priority-length}
+use Rattle.listing.proofs.Appending.{eight-groups}
 
 literal-six : (b : Bool) (h : Host) → targetFamily b (literalSix h) ≡ cond b 0 1
 literal-six b host.Named = refl
 literal-six b (host.V4 x) = refl
 literal-six b (host.V6 x y) = refl
-literal-six b host.Absent = refl
 
 literal-four : (b : Bool) (h : Host) → targetFamily b (literalFour h) ≡ cond b 1 0
 literal-four b host.Named = refl
 literal-four b (host.V4 x) = refl
 literal-four b (host.V6 x y) = refl
-literal-four b host.Absent = refl
 
 -- a reference is dealt by the family of the target that it stands for
 pub family-right : (r : Rules) (a : Alts) (d : Answers) (s : Services) (prefer6 : Bool) (p : ℕ) (x : Source) → familyOf prefer6 x ≡ targetFamily prefer6 (targetOf r a d s p x)
@@ -63,26 +62,6 @@ family-right r a d s prefer6 p (Hint4 i) = refl
 family-right r a d s prefer6 p (Literal6 k) = sym (literal-six prefer6 (literalAt r a k))
 family-right r a d s prefer6 p (Literal4 k) = sym (literal-four prefer6 (literalAt r a k))
 family-right r a d s prefer6 p (Name w) = refl
-
-length-dealt : (r : Rules) (xs : List Item) → length (dealt r xs) ≡ length xs
-unfolding dealt
-length-dealt r xs = dealt-length (prefersSix (r .preference)) xs
-
-ordered-four : (s : Services) → length (s .list) ≡ 4 → length (ordered s) ≤ 4
-unfolding ordered
-ordered-four s e = omega (arith, by-priority-length (map (λ x. x .priority) (take (s .count) (s .list))), length-map (take (s .count) (s .list)) (λ x. x .priority), length-take (s .count) (s .list))
-
--- at most 272: four services of 48, and 80
-pub at-most-272 : (r : Rules) (a : Alts) (q : Queries) (s : Services) (n : Same) → length (a .list) ≡ 4 → length (s .list) ≡ 4 → length (itemsToAttempt r a q s n) ≤ 272
-at-most-272 r a q s n e f =
-    rw (listing-is r a q s n, length-append) (omega (arith, services-few r q s n (anyEch (r .ech) s) (ordered s), four-ordered, rest (anyEch (r .ech) s)))
-  where
-    four-ordered : length (ordered s) ≤ 4
-    four-ordered = ordered-four s f
-
-    rest : (b : Bool) → length (cond b [] (dealt r (tierItems (lastRuns r a q n)))) ≤ 80
-    rest true = omega arith
-    rest false = omega (arith, length-dealt r (tierItems (lastRuns r a q n)), last-le r a q n e)
 
 keep-in : {A : Type 0} {x : A} (p : A → Bool) (xs : List A) → List·Memᴰ x xs → p x ≡ true → List·Memᴰ x (keep p xs)
 keep-in p [] m e = absurd (List·Memᴰ·not-nil m)
@@ -160,20 +139,20 @@ pub record Known : Type 0 where
   pub count : ℕ
 
 abbrev pub known : Query → Known
-known q = record { kind = q .kind; name = q .name; done = answered (q .answer); count = heldCount (q .count) (q .answer) }
+known q = record { kind = q .kind; name = q .name; done = answered (q .answer); count = heldCount (q .answer) }
 
 -- looking for a record in what is known
 found : (Known → Bool) → ℕ → List Known → Holding
 found test i [] = record { query = 0; count = 0 }
 found test i (k ∷ l) = cond (test k) (record { query = i; count = k .count }) (found test (i + 1) l)
 
-matches : Names → Kind → ℕ → Known → Bool
-matches same kind place k = (eqb (kindNumber (k .kind)) (kindNumber kind) && k .done) && sameName (nameAt same (k .name)) (nameAt same place)
+matches : Same → Kind → ℕ → Known → Bool
+matches same kind place k = (eqb (kindNumber (k .kind)) (kindNumber kind) && k .done) && same (k .name) place
 
 found-is : (same : Same) (kind : Kind) (place i : ℕ) (l : List Query) → firstHeld (isHeld same kind place) i l ≡ found (matches same kind place) i (map known l)
 unfolding firstHeld isHeld found matches
 found-is same kind place i [] = refl
-found-is same kind place i (q ∷ l) = ap (cond (isFor kind (q .kind) (q .answer) && sameName (nameAt same (q .name)) (nameAt same place)) (record { query = i; count = heldCount (q .count) (q .answer) })) (found-is same kind place (i + 1) l)
+found-is same kind place i (q ∷ l) = ap (cond (isFor kind (q .kind) (q .answer) && same (q .name) place) (record { query = i; count = heldCount (q .answer) })) (found-is same kind place (i + 1) l)
 
 module _ (n : Same) (q p : Queries) (same : map known (take (q .count) (q .list)) ≡ map known (take (p .count) (p .list))) where
   held-same : (kind : Kind) (w : ℕ) → heldAt n q kind w ≡ heldAt n p kind w
@@ -193,13 +172,15 @@ module _ (n : Same) (q p : Queries) (same : map known (take (q .count) (q .list)
         by-host host.Named = ap (cond (byName (r .mode)) (oneTarget (Name 0))) (targets-same 0)
         by-host (host.V4 x) = refl
         by-host (host.V6 x y) = refl
-        by-host host.Absent = refl
 
-    alt-same : (w : ℕ) (h : Host) → altTargets r q n w h ≡ altTargets r p n w h
-    alt-same w host.Named = ap (cond (byName (r .mode)) (oneTarget (Name w))) (targets-same w)
-    alt-same w (host.V4 x) = refl
-    alt-same w (host.V6 x y) = refl
-    alt-same w host.Absent = origin-same
+    own-same : (w : ℕ) (h : Host) → ownTargets r q n w h ≡ ownTargets r p n w h
+    own-same w host.Named = ap (cond (byName (r .mode)) (oneTarget (Name w))) (targets-same w)
+    own-same w (host.V4 x) = refl
+    own-same w (host.V6 x y) = refl
+
+    alt-same : (w : ℕ) (h : AltHost) → altTargets r q n w h ≡ altTargets r p n w h
+    alt-same w alt.Origin = origin-same
+    alt-same w (alt.Own h) = own-same w h
 
     alts-same : (i : ℕ) (l : List Alt) → altsFrom r q n i l ≡ altsFrom r p n i l
     unfolding altsFrom altRuns
@@ -219,4 +200,4 @@ module _ (n : Same) (q p : Queries) (same : map known (take (q .count) (q .list)
     held-only a s =
         rw (last-same a)
         (ap (λ l. each (dealt r) (l ++ cond (anyEch (r .ech) s) [] (tierItems (lastRuns r a p n) ∷ [])))
-        (map-same (λ i. tierItems (serviceRuns r q n i (serviceAt s i))) (λ i. tierItems (serviceRuns r p n i (serviceAt s i))) (usable r s) (λ i. ap tierItems (service-same i (serviceAt s i)))))
+        (map-same (λ i. tierItems (serviceRuns r q n i (serviceAt s i))) (λ i. tierItems (serviceRuns r p n i (serviceAt s i))) (usable (r .ech) s) (λ i. ap tierItems (service-same i (serviceAt s i)))))

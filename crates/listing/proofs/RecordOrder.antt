@@ -1,4 +1,4 @@
--- (H) "A host's addresses come from held answers for exactly that name, in record order." The listing takes the IPv6 addresses of the first answered AAAA
+-- (H) Document 01 takes a host's addresses "in record order". The listing takes the IPv6 addresses of the first answered AAAA
 -- record and the IPv4 addresses of the first answered A record; where a name has one record of a type, both are dealt alike wherever they stand in a tier.
 use Prim.Native.Nat.{ℕ, _+_, _*_}
 use mathlib.Core.Path.{_≡_, refl, sym, ap, _∙_}
@@ -13,8 +13,10 @@ use Rattle.deal.specs.Interleaving as dealing
 use Rattle.deal.proofs.Lists.{keep-append, keep-map}
 use Rattle.deal.proofs.Laws.{alike}
 use Rattle.records.specs.Numbers.{rankNumber}
-use Rattle.records.specs.Names.{nameAt, sameName}
-use Rattle.listing.specs.Held.{Same}
+use Rattle.listing.specs.Held.{Same, heldCount, isFor, isHeld, firstHeld, heldAt, heldTargets}
+use Rattle.records.specs.Lists.{each, some?}
+use Rattle.listing.specs.Items.{groupOf, itemOf, runItems}
+use Rattle.listing.specs.Listing.{hostRuns, tierItems}
 use Rattle.records.specs.declared.queries.Query.{Query}
 use Rattle.records.specs.declared.queries.Queries.{Queries}
 use Rattle.records.specs.declared.queries.Kind.{Kind}
@@ -24,10 +26,6 @@ use Rattle.records.specs.declared.names.EchPlace.{EchPlace}
 use Rattle.records.specs.declared.references.Source.the-variants.{Held6, Held4}
 use Rattle.records.specs.declared.references.Item.{Item}
 use Rattle.listing.specs.declared.tier.Run.{Run}
-use Rattle.listing.specs.Lists.{each, some?}
-use Rattle.listing.specs.Items.{groupOf, itemOf, runItems}
-use Rattle.listing.specs.Held.{heldCount, isFor, isHeld, firstHeld, heldAt, heldTargets}
-use Rattle.listing.specs.Listing.{hostRuns, tierItems}
 use Rattle.listing.proofs.Tiers.{items-append, each-one}
 
 keep-const : {X : Type 0} (b : Bool) (l : List X) → keep (λ x. b) l ≡ cond b l []
@@ -49,7 +47,7 @@ one-type : (same : Same) (w : ℕ) (q : Query) → isHeld same Aaaa w q ≡ true
 unfolding isHeld
 one-type same w q e = by (q .kind) e
   where
-    by : (k : Kind) → isFor Aaaa k (q .answer) && sameName (nameAt same (q .name)) (nameAt same w) ≡ true → isFor A k (q .answer) && sameName (nameAt same (q .name)) (nameAt same w) ≡ false
+    by : (k : Kind) → isFor Aaaa k (q .answer) && same (q .name) w ≡ true → isFor A k (q .answer) && same (q .name) w ≡ false
     by Https h = refl
     by Aaaa h = refl
     by A h = absurd (let z : _≡_ {A = ℕ} 0 1 = cc in omega arith)
@@ -65,7 +63,7 @@ none-found test i [] e = refl
 none-found test i (q ∷ l) e = by (test q) refl e (none-found test (i + 1) l)
   where
     by : (b : Bool) → test q ≡ b → cond b true (some? test l) ≡ false → (some? test l ≡ false → firstHeld test (i + 1) l ≡ record { query = 0; count = 0 })
-        → cond (test q) (record { query = i; count = heldCount (q .count) (q .answer) }) (firstHeld test (i + 1) l) ≡ record { query = 0; count = 0 }
+        → cond (test q) (record { query = i; count = heldCount (q .answer) }) (firstHeld test (i + 1) l) ≡ record { query = 0; count = 0 }
     by true p h ih = absurd (let z : _≡_ {A = ℕ} 0 1 = cc in omega arith)
     by false p h ih = rw (p) (ih h)
 
@@ -80,7 +78,7 @@ module _ (prefer6 : Bool) (port : ℕ) (rank : Rank) (ech : EchPlace) where
   pub recordRuns : (Query → Bool) → (Query → Bool) → ℕ → List Query → List Run
   recordRuns is6 is4 i [] = []
   recordRuns is6 is4 i (q ∷ l) =
-      cond (is6 q) (six i (heldCount (q .count) (q .answer)) ∷ []) [] ++ (cond (is4 q) (four i (heldCount (q .count) (q .answer)) ∷ []) [] ++ recordRuns is6 is4 (i + 1) l)
+      cond (is6 q) (six i (heldCount (q .answer)) ∷ []) [] ++ (cond (is4 q) (four i (heldCount (q .answer)) ∷ []) [] ++ recordRuns is6 is4 (i + 1) l)
 
   -- the members of group g among a run's endpoints
   part : ℕ → Run → List Item
@@ -156,7 +154,7 @@ module _ (prefer6 : Bool) (port : ℕ) (rank : Rank) (ech : EchPlace) where
     in-order i (q ∷ l) u v = by (is6 q) (is4 q) refl refl (in-order (i + 1) l (u .1) (v .1))
       where
         n : ℕ
-        n = heldCount (q .count) (q .answer)
+        n = heldCount (q .answer)
 
         by : (a b : Bool) → is6 q ≡ a → is4 q ≡ b → parts g (recordRuns is6 is4 (i + 1) l) ≡ found6 (i + 1) l ++ found4 (i + 1) l → parts g (recordRuns is6 is4 i (q ∷ l)) ≡ found6 i (q ∷ l) ++ found4 i (q ∷ l)
         by true true p r h = absurd (let z : _≡_ {A = ℕ} 0 1 = cc (apart-types q p) in omega arith)

@@ -14,16 +14,16 @@ use Rattle.records.specs.declared.rules.Alt.{Alt}
 use Rattle.records.specs.declared.rules.Alts.{Alts}
 use Rattle.records.specs.declared.queries.Queries.{Queries}
 use Rattle.listing.specs.Held.{Same}
+use Rattle.records.specs.Lists.{each}
+use Rattle.records.specs.Rules.{noAlt}
+use Rattle.listing.specs.Items.{runItems}
+use Rattle.listing.specs.Listing.{combined, quic, hostRuns, tierItems, altRuns, altsFrom, originRuns, lastRuns}
+use Rattle.listing.specs.Room.{ranked, hostRunsIf, bothRuns, atRanks, altRunsAt}
 use Rattle.records.specs.declared.endpoints.Rank.{Rank}
 use Rattle.records.specs.declared.names.EchPlace.{EchPlace}
 use Rattle.listing.specs.declared.hosts.HostTargets.{HostTargets}
 use Rattle.listing.specs.declared.versions.Ranks.{Ranks}
 use Rattle.listing.specs.declared.tier.Run.{Run}
-use Rattle.listing.specs.Lists.{each}
-use Rattle.records.specs.References.{noAlt}
-use Rattle.listing.specs.Items.{runItems}
-use Rattle.listing.specs.Listing.{combined, quic, hostRuns, tierItems, altRuns, altsFrom, originRuns, lastRuns}
-use Rattle.listing.specs.Room.{ranked, hostRunsIf, bothRuns, atRanks, altRunsAt}
 use Rattle.listing.proofs.Tiers.{items-append}
 
 -- a lot that is off is empty

@@ -1,5 +1,6 @@
 -- What the code keeps: lists in rooms, with what is unused zero. A reader needs `listed`, `tiered` and `ranked` of it, which promises cite.
-use Prim.Native.Nat.{ℕ}
+use Prim.Native.Nat.{ℕ, _≤_, _<_}
+use mathlib.Core.Path.{_≡_}
 use mathlib.Core.Bool.{Bool, false, cond}
 use mathlib.Core.List.{List, [], _∷_, _++_, map}
 use lib.Dec.{ltb}
@@ -78,3 +79,10 @@ heldItems l = take (l .count) (l .list)
 
 abbrev pub tierMembers : Tier → List Item
 tierMembers t = take (t .count) (t .list)
+
+-- places in order, in a room of 4
+pub record Orders (ks : List ℕ) (count : ℕ) (list : List ℕ) : Type 0 where
+  pub front : take count list ≡ ks
+  pub number : count ≡ length ks
+  pub few : count ≤ 4
+  pub within : (k : ℕ) → k < count → getD list k 0 < 4

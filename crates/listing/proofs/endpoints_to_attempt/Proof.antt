@@ -1,77 +1,96 @@
--- `listing::endpoints_to_attempt` meets its contract: the services' tiers, and unless ECH shuts it out the last one.
+-- `listing::endpoints_to_attempt` meets its contract: tier after tier, and the classes of names say what their bytes say.
+use Prim.Native.Nat.{_-_}
 use mathlib.Core.Path.{_≡_, sym, ap, _∙_}
-use mathlib.Core.List.{append-nil}
 use native.Mathlib.Omega.{arith}
 use lib.ListN.{length, length-map}
-use Rattle.listing.specs.Listing.{anyEch, dealt}
-use Rattle.listing.specs.Room.{listed, heldItems}
-use Rattle.listing.proofs.Bounds.{last-le}
-use Rattle.listing.proofs.Appending.{listed-again, held-listed, held-count}
-use Rattle.listing.proofs.Services.{listing-is}
+use Rattle.records.specs.Names.{sameAt}
+use Rattle.records.specs.Classes.{sameClass}
+use Rattle.records.proofs.Classes.{classes-same}
+use Rattle.listing.specs.Listing.{itemsToAttempt}
+use Rattle.listing.specs.Room.{listed}
+use Rattle.listing.proofs.Whole.{Listed, listed-none, listed-held, listed-fits, listed-more, listed-end, listed-full}
 use borrow.Author.Needs.{needs}
 use Rattle.listing.proofs.endpoints_to_attempt.Statement.{statement}
 use Rattle.listing.proofs.endpoints_to_attempt.Tie as tie
 
--- the flag is the definition's
-shut : (c : tie.After-if-on) → c .if-on .result ≡ anyEch (c .before .before .args .rules .ech) (c .before .before .args .services)
-unfolding anyEch
-shut c = rw (← c .before .some-ech .ensures) (c .if-on .ensures)
+abbrev Inv-loop : tie.InvT-loop
+Inv-loop rules alts queries services same n l₀ k₀ l k = Listed rules alts queries services (sameClass same) k l
 
-some-ech-requires : tie.Need-some-ech-requires
-some-ech-requires c κs = search needs
+abbrev μ-loop : tie.MeasureT-loop
+μ-loop rules alts queries services same n l₀ k₀ l k = 5 - k
 
-if-on-requires : tie.Need-if-on-requires
-if-on-requires c κs = search needs
+-- there is room for four alternative services and for four services
+fours : (c : tie.Start Inv-loop μ-loop) → length (c .args .alts .list) ≡ 4
+fours c = simp length-map at (c .good .1 .0 .1 .1 .1 .0 .1 .0 .1)
 
-service-listing-requires : tie.Need-service-listing-requires
-service-listing-requires c κs = search needs
+rooms : (c : tie.Start Inv-loop μ-loop) → length (c .args .services .list) ≡ 4
+rooms c = simp length-map at (c .good .1 .1 .1 .0 .1 .1 .1 .0 .1 .0 .1)
 
-returns : tie.Need-returns
+by-bytes : (c : tie.After-same-names Inv-loop μ-loop) → listed (itemsToAttempt (c .before .args .rules) (c .before .args .alts) (c .before .args .queries) (c .before .args .services) (sameClass (c .same-names .result))) ≡ listed (itemsToAttempt (c .before .args .rules) (c .before .args .alts) (c .before .args .queries) (c .before .args .services) (sameAt (c .before .args .names)))
+by-bytes c = let a = c .before .args in ap (λ n. listed (itemsToAttempt (a .rules) (a .alts) (a .queries) (a .services) n)) (ap sameClass (c .same-names .ensures) ∙ classes-same (a .names))
+
+same-names-requires : tie.Need-same-names-requires Inv-loop μ-loop
+same-names-requires c κs = search needs
+
+tier-count-requires : tie.Need-tier-count-requires Inv-loop μ-loop
+tier-count-requires c κs = search needs
+
+no-listing-requires : tie.Need-no-listing-requires Inv-loop μ-loop
+no-listing-requires c κs = search needs
+
+loop-holds : tie.Need-loop-holds Inv-loop μ-loop
+loop-holds c = listed-none _ _ _ _ _ _ (c .no-listing .ensures)
+
+returns : tie.Need-returns Inv-loop μ-loop
 returns c =
-    let v = c .before in
-    let a = v .before .before .before .args in
-    v .service-listing .ensures .0 ∙ ap listed (rw (shut (v .before)) (sym (listing-is (a .rules) (a .alts) (a .queries) (a .services) (a .same) ∙ rw (← shut (v .before), c .if1 .taken) (append-nil _))))
+    let h = c .before .before in
+    listed-end _ _ _ _ _ _ _ (h .loop .inv) (omega (arith, h .before .before .tier-count .ensures)) ∙ by-bytes (h .before .before .before)
 
-last-runs-requires : tie.Need-last-runs-requires
-last-runs-requires c κs = search needs
+cast-tier-at : tie.Need-cast-tier-at Inv-loop μ-loop
+cast-tier-at c = search needs
 
-prefers-six-requires : tie.Need-prefers-six-requires
-prefers-six-requires c κs = search needs
+tier-at-requires : tie.Need-tier-at-requires Inv-loop μ-loop
+tier-at-requires c κs = search needs
 
-append-tier-requires : tie.Need-append-tier-requires
-append-tier-requires c κs =
-    let u = c .before in
-    let v = u .before .before in
-    let s = v .before .before .before in
-    let a = s .args in
-    let four : length (a .alts .list) ≡ 4 = simp length-map at (s .good .1 .0 .1 .1 .1 .0 .1 .0 .1) in
-    let e = ap length (u .last-runs .ensures) in
-    let k = last-le (a .rules) (a .alts) (a .queries) (a .same) four in
-    let g = listed-again _ _ (v .service-listing .ensures .0) in
-    let n = held-count _ g in
-    let m = ap length (ap heldItems (v .service-listing .ensures .0) ∙ held-listed _) in
-    (g, omega (arith, e, k), omega (arith, e, k, n, m, v .service-listing .ensures .1))
+appended-requires : tie.Need-appended-requires Inv-loop μ-loop
+appended-requires c κs =
+    let h = c .before .before .before in
+    let s = h .before .before .before .before in
+    let f = listed-fits _ _ _ _ _ _ _ (h .loop .inv) _ (omega (arith, h .before .before .tier-count .ensures)) (c .tier-at .ensures) (fours s) (rooms s) in
+    (listed-held _ _ _ _ _ _ _ (h .loop .inv), f .0, f .1)
 
-returns-2 : tie.Need-returns-2
-unfolding dealt
+add-k : tie.Need-add-k Inv-loop μ-loop
+add-k c = search needs
+
+loop-less : tie.Need-loop-less Inv-loop μ-loop
+loop-less c = search needs
+
+loop-again : tie.Need-loop-again Inv-loop μ-loop
+loop-again c =
+    let t = c .before in
+    let h = t .before .before .before in
+    listed-more _ _ _ _ _ _ _ (h .loop .inv) _ (omega (arith, h .before .before .tier-count .ensures)) (t .tier-at .ensures) _ (omega arith) (c .appended .ensures)
+
+returns-2 : tie.Need-returns-2 Inv-loop μ-loop
 returns-2 c =
-    let p = c .before in
-    let u = p .before in
-    let v = u .before .before in
-    let a = v .before .before .before .args in
-    let h = ap heldItems (v .service-listing .ensures .0) ∙ held-listed _ in
-    c .append-tier .ensures
-    ∙ ap listed (rw (h, p .prefers-six .ensures, u .last-runs .ensures, shut (v .before)) (sym (listing-is (a .rules) (a .alts) (a .queries) (a .services) (a .same) ∙ rw (← shut (v .before), u .before .if1 .left))))
+    let h = c .before in
+    listed-full _ _ _ _ _ _ _ (h .loop .inv) (rooms (h .before .before .before .before)) (omega arith) ∙ by-bytes (h .before .before .before)
 
 pub endpoints-to-attempt-spec : {M : Type 1} → statement M
 endpoints-to-attempt-spec =
     tie.close
     (tie.spec
-    some-ech-requires
-    if-on-requires
-    service-listing-requires
+    Inv-loop
+    μ-loop
+    same-names-requires
+    tier-count-requires
+    no-listing-requires
+    loop-holds
     returns
-    last-runs-requires
-    prefers-six-requires
-    append-tier-requires
+    cast-tier-at
+    tier-at-requires
+    appended-requires
+    add-k
+    loop-less
+    loop-again
     returns-2)

@@ -1,0 +1,199 @@
+-- The listing out of its tiers: what tier k is, how many there are, and one tier more at the end.
+use Prim.Native.Nat.{ℕ, zero, suc, _+_, _*_, _≤_, _<_}
+use mathlib.Core.Path.{_≡_, refl, sym, ap, _∙_}
+use mathlib.Core.Bool.{Bool, true, false, cond}
+use mathlib.Core.List.{List, [], _∷_, _++_, map}
+use native.Mathlib.Numerals.{add-one}
+use native.Mathlib.Decide.{decLt}
+use native.Mathlib.Omega.{arith}
+use lib.ListN.{length, take, drop, getD, length-append, length-map, List·getD-append, List·getD-eq-default, take-append-drop}
+use lib.Seq.{take-suc, take-all, getD-append-add}
+use Rattle.deal.specs.Interleaving.{interleave}
+use Rattle.records.specs.Lists.{each}
+use Rattle.records.specs.Rules.{prefersSix}
+use Rattle.records.specs.Services.{anyEch}
+use Rattle.records.specs.declared.rules.Rules.{Rules}
+use Rattle.records.specs.declared.rules.Alts.{Alts}
+use Rattle.records.specs.declared.queries.Queries.{Queries}
+use Rattle.records.specs.declared.services.Services.{Services}
+use Rattle.records.specs.declared.references.Item.{Item}
+use Rattle.listing.specs.declared.tier.Tier.{Tier}
+use Rattle.listing.specs.declared.Listing.{Listing}
+use Rattle.listing.specs.Held.{Same}
+use Rattle.listing.specs.Items.{groupOf}
+use Rattle.listing.specs.Listing.{serviceAt, serviceRuns, lastRuns, usable, tierItems, serviceTiers, tiers, dealt, tierCount, tierAt, itemsToAttempt}
+use Rattle.listing.specs.Room.{listed, heldItems, tiered, tierMembers}
+use Rattle.listing.proofs.Tiers.{each-append, each-one, each-none, each-map}
+use Rattle.listing.proofs.Bounds.{service-le, last-le}
+use Rattle.listing.proofs.Appending.{dealt-length, held-listed, listed-again, members-tiered, count-tiered}
+use Rattle.listing.proofs.Priorities.{usable-four}
+
+pub length-dealt : (r : Rules) (xs : List Item) → length (dealt r xs) ≡ length xs
+unfolding dealt
+length-dealt r xs = dealt-length (prefersSix (r .preference)) xs
+
+pub dealt-none : (r : Rules) → dealt r [] ≡ []
+unfolding dealt interleave
+dealt-none r = refl
+
+at-most-one : (b : Bool) → cond b 0 1 ≤ 1
+at-most-one true = omega arith
+at-most-one false = omega arith
+
+getD-map : {A B : Type 0} (f : A → B) (d : A) (z : B) (l : List A) (k : ℕ) → k < length l → getD (map f l) k z ≡ f (getD l k d)
+getD-map f d z [] k h = absurd (omega arith)
+getD-map f d z (x ∷ l) zero h = refl
+getD-map f d z (x ∷ l) (suc k) h = getD-map f d z l k (omega arith)
+
+-- none of a list's members is longer than m
+long-each : {A : Type 0} (f : A → List Item) (m : ℕ) (l : List A) → ((x : A) → length (f x) ≤ m) → length (each f l) ≤ m * length l
+unfolding each
+long-each f m [] h = omega arith
+long-each f m (x ∷ l) h = omega (arith, length-append (f x) (each f l), h x, long-each f m l h)
+
+module _ (r : Rules) (a : Alts) (q : Queries) (s : Services) (n : Same) where
+  abbrev ofService : ℕ → List Item
+  ofService i = tierItems (serviceRuns r q n i (serviceAt s i))
+
+  abbrev last : Bool → List (List Item)
+  last sealed = cond sealed [] (tierItems (lastRuns r a q n) ∷ [])
+
+  services-length : length (serviceTiers r q s n) ≡ length (usable (r .ech) s)
+  unfolding serviceTiers
+  services-length = length-map (usable (r .ech) s) ofService
+
+  last-length : (b : Bool) → length (last b) ≡ cond b 0 1
+  last-length true = refl
+  last-length false = refl
+
+  -- how many tiers there are
+  pub tier-count : length (tiers r a q s n) ≡ tierCount r s
+  unfolding tiers tierCount
+  tier-count = length-append (serviceTiers r q s n) (last (anyEch (r .ech) s)) ∙ (ap (λ k. k + length (last (anyEch (r .ech) s))) services-length ∙ ap (λ k. length (usable (r .ech) s) + k) (last-length (anyEch (r .ech) s)))
+
+  -- first the services that are used, by priority,
+  pub tier-service : (k : ℕ) → k < length (usable (r .ech) s) → tierAt r a q s n k ≡ dealt r (ofService (getD (usable (r .ech) s) k 0))
+  unfolding tierAt tiers serviceTiers
+  tier-service k h =
+      ap (dealt r)
+      (List·getD-append (serviceTiers r q s n) (last (anyEch (r .ech) s)) [] k (omega (arith, services-length))
+      ∙ getD-map ofService 0 [] (usable (r .ech) s) k h)
+
+  after : (k j : ℕ) → k ≡ length (usable (r .ech) s) + j → getD (tiers r a q s n) k [] ≡ getD (last (anyEch (r .ech) s)) j []
+  unfolding tiers
+  after k j e = ap (λ i. getD (serviceTiers r q s n ++ last (anyEch (r .ech) s)) i []) (e ∙ ap (λ i. i + j) (sym services-length)) ∙ getD-append-add (serviceTiers r q s n) (last (anyEch (r .ech) s)) j []
+
+  -- then alternative services and origin, unless ECH shuts them out,
+  pub tier-last : (k : ℕ) → k ≡ length (usable (r .ech) s) → anyEch (r .ech) s ≡ false → tierAt r a q s n k ≡ dealt r (tierItems (lastRuns r a q n))
+  unfolding tierAt
+  tier-last k e f = ap (dealt r) (after k 0 (omega arith) ∙ ap (λ b. getD (last b) 0 []) f)
+
+  -- and no more
+  pub tier-past : (k : ℕ) → tierCount r s ≤ k → tierAt r a q s n k ≡ []
+  unfolding tierAt
+  tier-past k h = ap (dealt r) (List·getD-eq-default (tiers r a q s n) [] (omega (arith, tier-count))) ∙ dealt-none r
+
+  pub tier-sealed : (k : ℕ) → length (usable (r .ech) s) ≤ k → anyEch (r .ech) s ≡ true → tierAt r a q s n k ≡ []
+  unfolding tierCount
+  tier-sealed k h e = tier-past k (rw (e) (omega arith))
+
+  pub tier-beyond : (k : ℕ) → length (usable (r .ech) s) < k → tierAt r a q s n k ≡ []
+  unfolding tierCount
+  tier-beyond k h = tier-past k (omega (arith, at-most-one (anyEch (r .ech) s)))
+
+  module _ (four : length (a .list) ≡ 4) (rooms : length (s .list) ≡ 4) where
+    -- at most 272: four services of 48, and 80
+    pub at-most-272 : length (itemsToAttempt r a q s n) ≤ 272
+    unfolding itemsToAttempt tiers serviceTiers
+    at-most-272 =
+        rw (each-append (dealt r) (serviceTiers r q s n) (last (anyEch (r .ech) s)), length-append)
+        (omega (arith, services, rest (anyEch (r .ech) s), usable-four (r .ech) s rooms))
+      where
+        short : (i : ℕ) → length (dealt r (ofService i)) ≤ 48
+        short i = omega (arith, length-dealt r (ofService i), service-le r q n i (serviceAt s i))
+
+        services : length (each (dealt r) (map ofService (usable (r .ech) s))) ≤ 48 * length (usable (r .ech) s)
+        services = rw (each-map (dealt r) ofService (usable (r .ech) s)) (long-each (λ i. dealt r (ofService i)) 48 (usable (r .ech) s) short)
+
+        rest : (b : Bool) → length (each (dealt r) (last b)) ≤ 80
+        rest true = rw (each-none (dealt r)) (omega arith)
+        rest false = rw (each-one (dealt r) (tierItems (lastRuns r a q n))) (omega (arith, length-dealt r (tierItems (lastRuns r a q n)), last-le r a q n four))
+
+    pub tier-few : (k : ℕ) → length (tierAt r a q s n k) ≤ 80
+    tier-few k = elim (decLt k (length (usable (r .ech) s))) [ yes h ↦ service h | no h ↦ rest (anyEch (r .ech) s) refl (omega arith) ]
+      where
+        service : k < length (usable (r .ech) s) → length (tierAt r a q s n k) ≤ 80
+        service h = let i = getD (usable (r .ech) s) k 0 in rw (tier-service k h) (omega (arith, length-dealt r (ofService i), service-le r q n i (serviceAt s i)))
+
+        last-one : anyEch (r .ech) s ≡ false → k ≡ length (usable (r .ech) s) → length (tierAt r a q s n k) ≤ 80
+        last-one e h = rw (tier-last k h e) (omega (arith, length-dealt r (tierItems (lastRuns r a q n)), last-le r a q n four))
+
+        none : tierAt r a q s n k ≡ [] → length (tierAt r a q s n k) ≤ 80
+        none e = rw (e) (omega arith)
+
+        rest : (b : Bool) → anyEch (r .ech) s ≡ b → length (usable (r .ech) s) ≤ k → length (tierAt r a q s n k) ≤ 80
+        rest true e h = none (tier-sealed k h e)
+        rest false e h = elim (decLt (length (usable (r .ech) s)) k) [ yes m ↦ none (tier-beyond k m) | no m ↦ last-one e (omega arith) ]
+
+  -- the tiers before k, and one more
+  unfoldable pub before : ℕ → List Item
+  before k = each (dealt r) (take k (tiers r a q s n))
+
+  before-none : before 0 ≡ []
+  unfolding before
+  before-none = each-none (dealt r)
+
+  before-more : (k : ℕ) → k < tierCount r s → before (k + 1) ≡ before k ++ tierAt r a q s n k
+  unfolding before tierAt
+  before-more k h =
+      let l = tiers r a q s n in
+      ap (λ m. each (dealt r) (take m l)) (add-one k)
+      ∙ (ap (each (dealt r)) (take-suc l k [] (omega (arith, tier-count)))
+      ∙ (each-append (dealt r) (take k l) (getD l k [] ∷ [])
+      ∙ ap (λ x. each (dealt r) (take k l) ++ x) (each-one (dealt r) (getD l k []))))
+
+  before-all : (k : ℕ) → tierCount r s ≤ k → before k ≡ itemsToAttempt r a q s n
+  unfolding before itemsToAttempt
+  before-all k h = ap (each (dealt r)) (take-all k (tiers r a q s n) (omega (arith, tier-count)))
+
+  -- what stands before k is no longer than the whole
+  before-le : (k : ℕ) → length (before k) ≤ length (itemsToAttempt r a q s n)
+  unfolding before itemsToAttempt
+  before-le k =
+      let l = tiers r a q s n in
+      let e : length (each (dealt r) (take k l ++ drop k l)) ≡ length (each (dealt r) (take k l)) + length (each (dealt r) (drop k l)) = ap length (each-append (dealt r) (take k l) (drop k l)) ∙ length-append (each (dealt r) (take k l)) (each (dealt r) (drop k l)) in
+      let f : length (each (dealt r) (take k l ++ drop k l)) ≡ length (each (dealt r) l) = ap (λ x. length (each (dealt r) x)) (take-append-drop k l) in
+      omega arith
+
+  -- what the code has listed after k tiers
+  pub record Listed (k : ℕ) (l : Listing) : Type 0 where
+    pub within : k ≤ 5
+    pub holds : l ≡ listed (before k)
+
+  pub listed-none : (l : Listing) → l ≡ listed [] → Listed 0 l
+  listed-none l e = record { within = omega arith; holds = e ∙ ap listed (sym before-none) }
+
+  module _ (k : ℕ) (l : Listing) (v : Listed k l) where
+    pub listed-held : l ≡ listed (heldItems l)
+    listed-held = listed-again (before k) l (v .holds)
+
+    holds-before : heldItems l ≡ before k
+    holds-before = ap heldItems (v .holds) ∙ held-listed (before k)
+
+    module _ (t : Tier) (h : k < tierCount r s) (e : t ≡ tiered (tierAt r a q s n k)) where
+      pub listed-fits : length (a .list) ≡ 4 → length (s .list) ≡ 4 → (t .count ≤ 80) × (l .count + t .count ≤ 272)
+      unfolding listed
+      listed-fits four rooms = (
+        omega (arith, count-tiered (tierAt r a q s n k) t e, tier-few four rooms k),
+        omega (arith, count-tiered (tierAt r a q s n k) t e, ap (λ x. x .count) (v .holds), ap length (before-more k h), length-append (before k) (tierAt r a q s n k), before-le (k + 1), at-most-272 four rooms),
+      )
+
+      pub listed-more : (m : Listing) → k < 5 → m ≡ listed (heldItems l ++ tierMembers t) → Listed (k + 1) m
+      listed-more m g p = record { within = omega arith; holds = p ∙ ap listed (ap (λ x. x ++ tierMembers t) holds-before ∙ (ap (λ x. before k ++ x) (members-tiered (tierAt r a q s n k) t e) ∙ sym (before-more k h))) }
+
+    pub listed-end : tierCount r s ≤ k → l ≡ listed (itemsToAttempt r a q s n)
+    listed-end h = v .holds ∙ ap listed (before-all k h)
+
+    pub listed-full : length (s .list) ≡ 4 → 5 ≤ k → l ≡ listed (itemsToAttempt r a q s n)
+    unfolding tierCount
+    listed-full rooms h = listed-end (omega (arith, usable-four (r .ech) s rooms, at-most-one (anyEch (r .ech) s)))
