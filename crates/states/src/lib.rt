@@ -388,3 +388,25 @@ pub extern "C" fn list_state(state: &[u64], bytes: &[u8], out: &mut [u64]) -> us
     put_listing(out, l, r, a, answers(state), s);
     l.count
 }
+
+// Lists the state so many times, each time at another port of the origin: the sum of each listing's length and of one of its ports, for timing from outside (`make bench`).
+#[no_mangle]
+pub extern "C" fn list_rounds(state: &[u64], bytes: &[u8], rounds: usize) -> u64 {
+    let mut r = rules(state);
+    let a = alts(state);
+    let q = queries(state);
+    let s = services(state);
+    let n = names(state, bytes);
+    let mut sum: u64 = 0;
+    let mut left = rounds;
+    while 0 < left {
+        r.port = half(left as u64);
+        let l = listing::endpoints_to_attempt(r, a, q, s, n);
+        let at = left % 272;
+        let x = l.list[at];
+        sum = std::num::wrapping_add_u64(sum, l.count as u64);
+        sum = std::num::wrapping_add_u64(sum, x.port as u64);
+        left -= 1;
+    }
+    sum
+}
