@@ -96,7 +96,7 @@ fn compare(random: &mut Random) {
         assert_eq!(out, wanted, "{groups:?}");
         seen[expected as usize] += 1;
     }
-    assert!(seen.iter().all(|&n| n > 0));
+    assert!(seen.iter().all(|&n| n > 0), "an answer never came: {seen:?}");
     let [dealt, long, other, none] = seen;
     println!("dealing: {LISTS} random lists agree: {dealt} dealt; {long} too long, {other} another room, {none} no group");
 }
