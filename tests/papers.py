@@ -12,6 +12,7 @@ a public contract cites is named. A rule that is cited anywhere exists."""
 
 import fnmatch
 import glob
+import itertools
 import os
 import re
 import sys
@@ -36,8 +37,17 @@ def read(path):
         return f.read()
 
 
-def tracked(pattern):
-    return sorted(p for p in glob.glob(pattern, recursive=True) if not p.startswith('target/') and '/target/' not in p)
+def walk():
+    for folder, folders, names in os.walk('.'):
+        folders[:] = sorted(f for f in folders if f not in ('target', '.git'))
+        yield from (os.path.join(folder, name)[2:] for name in sorted(names))
+
+
+TREE = list(walk())
+
+
+def files(top, *endings):
+    return [path for path in TREE if path.startswith(top) and path.endswith(endings)]
 
 
 # --- the code
@@ -84,7 +94,7 @@ def antt(crates):
     for crate in crates:
         for kind in found:
             top = f'crates/{crate}/{kind}/'
-            for path in tracked(top + '**/*.antt'):
+            for path in files(top, '.antt'):
                 found[kind][crate, path[len(top):-len('.antt')]] = declared(path)
     return found
 
@@ -100,7 +110,7 @@ def imports(path, text):
     for line in re.findall(r'ghost use Rattle·[^;]*;', text):
         if '.specs.declared.' in line:
             continue
-        m = re.fullmatch(r'ghost use Rattle·(\w+?)(?:·specs)?\.specs\.(\w+(?:\.\w+)*?)(?:\.\{([^}]*)\}| as (\w+));', line)
+        m = re.fullmatch(r'ghost use Rattle·(\w+?)(?:·specs)?\.specs\.(\w+(?:\.\w+)*?)(?:\.\{([^{}]*)\}| as (\w+));', line)
         if not m:
             fault(path, f'"{line}" was not understood')
             continue
@@ -111,10 +121,12 @@ def imports(path, text):
     return names, aliases
 
 
-def cited(contract, names, aliases):
+def cited(where, contract, names, aliases):
     found = set()
     for token in re.findall(r"[^\s(){}⌜⌝,;]+", contract):
         head, _, rest = token.partition('.')
+        if head.startswith('Rattle·'):
+            fault(where, f'{token}: bring the definition in by `ghost use`')
         if token in names or head in names:
             name = token if token in names else head
             found.add((*names[name], name))
@@ -127,7 +139,7 @@ def functions(crates):
     found, kinds, parts, plain = {}, {}, set(), 0
     for crate in crates:
         top = f'crates/{crate}/src/'
-        for path in tracked(top + '**/*.rt'):
+        for path in files(top, '.rt'):
             text = '\n'.join(re.sub(r'^\s*//.*', '', line) for line in read(path).splitlines())
             plain += len(re.findall(r'^\s*pub (?:extern "C" )?fn ', text, re.M))
             names, aliases = imports(path, text)
@@ -164,7 +176,7 @@ def functions(crates):
                 at = re.search(r'\b(?:requires|ensures)\b', head)
                 contract = head[at.start():] if at else ''
                 full = '::'.join([crate, *module, *owner, f.group(2)])
-                found[full] = Function(f'{path}:{n + 1}', bool(f.group(1)), contract, cited(contract, names, aliases))
+                found[full] = Function(f'{path}:{n + 1}', bool(f.group(1)), contract, cited(f'{path}:{n + 1}', contract, names, aliases))
     return found, kinds, parts, plain
 
 
@@ -172,9 +184,9 @@ crates = read_crates()
 specs_and_proofs = antt(crates)
 specs, proofs = specs_and_proofs['specs'], specs_and_proofs['proofs']
 fns, types, constants, plain_publics = functions(crates)
-rust = '\n'.join(read(p) for p in tracked('differential/**/*.rs') + tracked('host/*.rs'))
+rust = '\n'.join(read(p) for p in files('differential/', '.rs') + files('host/', '.rs'))
 tapes = [line.split()[0] for line in read('differential/stored/LIST').splitlines() if line and not line.startswith('#')]
-papers = tracked('**/*.md')
+papers = files('', '.md')
 
 
 def test_crates():
@@ -208,8 +220,8 @@ known_words |= set().union(*specs.values()) | set().union(*proofs.values())
 named = {sort: set() for sort in ('definitions', 'laws', 'functions', 'files', 'tapes', 'words')}
 
 
-def find_declared(crate, file, name, kinds):
-    return [kind for kind in kinds if name in specs_and_proofs[kind].get((crate, file), ())]
+def find_declared(crate, file, name):
+    return [kind for kind in specs_and_proofs if name in specs_and_proofs[kind].get((crate, file), ())]
 
 
 def find_function(name):
@@ -237,7 +249,7 @@ def sort_of(token):
     """The sort of a name between backticks, with its parts; None where nothing is asked."""
     if re.fullmatch(r'[0-9A-F]{2}( [0-9A-F]{2})*', token) or token.startswith('..') or token == 'stored/NAME':
         return None
-    m = re.fullmatch(r'([a-z]\w*)/([A-Z]\w*(?:/\w+)*) ([^\s,]+(?:, [^\s,]+)*)', token)
+    m = re.fullmatch(r'([a-z]\w*)/(\w+(?:/\w+)*) ([^\s,]+(?:, [^\s,]+)*)', token)
     if m:
         return 'declared', (m.group(1), m.group(2), m.group(3).split(', '))
     m = re.fullmatch(r'stored/([a-z0-9*-]+)', token)
@@ -254,15 +266,14 @@ def sort_of(token):
     return None
 
 
-def check(token, where, folder, kinds=('specs', 'proofs')):
+def check(token, where, folder):
     sort, what = sort_of(token) or (None, None)
     if sort == 'declared':
         crate, file, names = what
         for name in names:
-            found = find_declared(crate, file, name, kinds)
+            found = find_declared(crate, file, name)
             if not found:
-                places = ' or '.join(f'crates/{crate}/{kind}/{file}.antt' for kind in kinds)
-                fault(where, f'`{crate}/{file} {name}`: {places} declares no {name}')
+                fault(where, f'`{crate}/{file} {name}`: neither crates/{crate}/specs/{file}.antt nor proofs/{file}.antt declares {name}')
             for kind in found:
                 named['definitions' if kind == 'specs' else 'laws'].add((crate, file, name))
     elif sort == 'tape':
@@ -271,7 +282,7 @@ def check(token, where, folder, kinds=('specs', 'proofs')):
         named['tapes'].update(find_tape(what))
     elif sort == 'function':
         if not find_function(what):
-            fault(where, f'`{what}`: no such function')
+            fault(where, f'`{what}`: no such function, and no such case of an enum')
         named['functions'].add(what)
     elif sort == 'file':
         if not find_file(what, folder):
@@ -283,13 +294,13 @@ def check(token, where, folder, kinds=('specs', 'proofs')):
         named['words'].add(what)
     elif sort == 'bare':
         fault(where, f'`{what}`: write a law as `crate/File {what}` and a tape as `stored/{what}`')
-    return sort
 
 
 def check_papers():
     for paper in papers:
         folder = os.path.dirname(paper)
-        for n, line in enumerate(read(paper).splitlines(), 1):
+        text = read(paper)
+        for n, line in enumerate(text.splitlines(), 1):
             where = f'{paper}:{n}'
             if line.count('`') % 2:
                 fault(where, 'a backtick without its other one')
@@ -301,11 +312,11 @@ def check_papers():
                 if not find_file(path, folder):
                     fault(where, f'{path}: no such file')
                 named['files'].add(path)
-            for tape, data in re.findall(r'`stored/([a-z0-9-]+)`: `([0-9A-F]{2}(?: [0-9A-F]{2})*)`', line):
-                if find_tape(tape):
-                    with open(f'differential/stored/{tape}.tape', 'rb') as f:
-                        if f.read() != bytes.fromhex(data):
-                            fault(where, f'`stored/{tape}`: its bytes are others than the paper\'s')
+        for tape, data in re.findall(r'`stored/([a-z0-9-]+)`:\s+`([0-9A-F]{2}(?: [0-9A-F]{2})*)`', text):
+            if find_tape(tape):
+                with open(f'differential/stored/{tape}.tape', 'rb') as f:
+                    if f.read() != bytes.fromhex(data):
+                        fault(paper, f'`stored/{tape}`: its bytes are others than the paper\'s')
 
 
 # --- the rules
@@ -315,8 +326,8 @@ def items_of(paper):
     return set(re.findall(r'^(\d+)\. ', read(f'docs/{paper}.md'), re.M))
 
 
-def check_places(where, line, edits):
-    for place in line[2:].split(' · '):
+def check_places(where, text, edits):
+    for place in text.split(' · '):
         label, colon, rest = place.partition(': ')
         if not colon or label not in LABELS:
             fault(where, f'"{place[:40]}": a place starts with one of {", ".join(sorted(LABELS))}')
@@ -326,11 +337,15 @@ def check_places(where, line, edits):
             sort = (sort_of(token) or (None,))[0]
             if label in ('definition', 'laws'):
                 if sort != 'declared':
-                    fault(where, f'`{token}` is no name of a definition or law')
-                else:
-                    check(token, where, 'docs', ('specs',) if label == 'definition' else ('proofs',))
-            elif label == 'promise' and sort == 'function' and token not in publics:
-                fault(where, f'`{token}` is no public function of a crate that the shell may see')
+                    fault(where, f'`{token}`: not the name of a definition or law')
+                    continue
+                crate, file, names = sort_of(token)[1]
+                for name in names:
+                    kinds = find_declared(crate, file, name)
+                    if kinds and ('specs' if label == 'definition' else 'proofs') not in kinds:
+                        fault(where, f'`{crate}/{file} {name}` stands in {kinds[0]}, so it is no {label.rstrip("s")}')
+            elif label == 'promise' and token in fns and token not in publics:
+                fault(where, f'`{token}` is not public, or of a test crate')
             elif label == 'test' and sort != 'file':
                 fault(where, f'`{token}` is no file')
             elif label == 'model' and sort not in ('tape', 'file'):
@@ -356,7 +371,8 @@ def check_rules():
     body = read(RULES).split('\n## Names from elsewhere', 1)
     if len(body) != 2:
         fault(RULES, 'no section "Names from elsewhere"')
-    for n, line in enumerate(body[0].splitlines(), 1):
+    lines = body[0].splitlines()
+    for n, line in enumerate(lines, 1):
         where = f'{RULES}:{n}'
         rule = re.match(r'\*\*([A-Z]|\d+)\.(\d+)\b', line)
         if rule:
@@ -367,14 +383,15 @@ def check_rules():
             rules.append(current)
         elif line.startswith('#'):
             current = None
-        elif line.startswith('> '):
-            check_places(where, line, edits)
+        elif line.startswith('> ') and not lines[n - 2].startswith('> '):
+            rest = itertools.takewhile(lambda later: later.startswith('> '), lines[n - 1:])
+            check_places(where, ' '.join(later[2:] for later in rest), edits)
             placed.add(current)
     for rule in rules:
         if rule not in placed:
             fault(RULES, f'rule {rule} has no line that says where it stands')
     counted = {}
-    for path in tracked('crates/*/must-fail/*.edit'):
+    for path in files('crates/', '.edit'):
         crate = path.split('/')[1]
         counted[crate] = counted.get(crate, 0) + 1
     if edits != counted:
@@ -386,8 +403,7 @@ def check_citations(rules):
     number = r'(?:[A-Z]|\d+)\.\d+'
     gap = r'\s+(?:(?://[/!]?|--|#)\s+)?'  # a citation may go over the end of a comment's line
     citations = 0
-    files = papers + [p for end in ('rt', 'antt', 'rs', 'sh', 'py', 'c', 'h') for p in tracked(f'**/*.{end}')] + ['Makefile', '.ci/run', 'crates.txt']
-    for path in sorted(set(files)):
+    for path in files('', '.md', '.rt', '.antt', '.rs', '.sh', '.py', '.c', '.h', '.txt', 'Makefile', '.ci/run'):
         text = read(path)
         for m in re.finditer(rf'\b[Rr]ules?{gap}({number}(?:(?:,|{gap}(?:and|to|or))(?:{gap}rule)?{gap}{number})*)(?:{gap}\(document 01, part (\d+)\))?', text):
             where = f'{path}:{text.count(chr(10), 0, m.start()) + 1}'
@@ -426,7 +442,7 @@ def check_named():
 def check_check():
     """A name with one letter more isn't found: the look-up doesn't say yes to everything."""
     for crate, file, name in named['definitions'] | named['laws']:
-        if find_declared(crate, file, name + 'x', ('specs', 'proofs')):
+        if find_declared(crate, file, name + 'x'):
             fault('tests/papers.py', f'{crate}/{file} {name}x is found')
     for name in named['functions']:
         if find_function(name + 'x'):
