@@ -418,7 +418,7 @@ def check_citations(rules):
 
 def check_named():
     """Every public function, and every definition that its contract cites, is named in the rules."""
-    tokens = [sort_of(t) for t in re.findall(r'`([^`]+)`', read(RULES))]
+    tokens = [sort_of(t) for line in read(RULES).splitlines() for t in re.findall(r'`([^`]+)`', line)]
     said = {what for sort, what in filter(None, tokens) if sort == 'function'}
     stated = {(c, f, name) for sort, what in filter(None, tokens) if sort == 'declared' for c, f, names in [what] for name in names}
     wanted = set()
