@@ -211,7 +211,9 @@ tests = test_crates()
 publics = {name: f for name, f in fns.items() if f.public and name.split('::')[0] not in tests}
 last_names = {name.split('::')[-1] for name in fns}
 members = set().union(*types.values()) if types else set()
-other_words = set(re.findall(r'`(\w+)`', read(RULES).split('\n## Names from elsewhere', 1)[-1]))
+rules_text, _, elsewhere = read(RULES).partition('\n## Names from elsewhere')
+other_words = set(re.findall(r'`(\w+)`', elsewhere))
+used_words = {word for p in papers for word in re.findall(r'`(\w+)`', rules_text if p == RULES else read(p))}
 known_words = set(crates) | last_names | set(types) | members | constants | other_words
 known_words |= set().union(*specs.values()) | set().union(*proofs.values())
 
@@ -368,10 +370,9 @@ def check_places(where, text, edits):
 
 def check_rules():
     rules, placed, current, edits = [], set(), None, {}
-    body = read(RULES).split('\n## Names from elsewhere', 1)
-    if len(body) != 2:
+    if not elsewhere:
         fault(RULES, 'no section "Names from elsewhere"')
-    lines = body[0].splitlines()
+    lines = rules_text.splitlines()
     for n, line in enumerate(lines, 1):
         where = f'{RULES}:{n}'
         rule = re.match(r'\*\*([A-Z]|\d+)\.(\d+)\b', line)
@@ -467,6 +468,8 @@ for sort, least in LEAST.items():
         fault('tests/papers.py', f'only {counts[sort]} {sort} were found, at least {least} should be')
 if not tests:
     fault('README.md', 'no row of the table of crates says "for the tests alone"')
+for word in sorted(other_words - used_words):
+    fault(RULES, f'`{word}` is listed under "Names from elsewhere", and no paper uses it')
 for text in dict.fromkeys(faults):
     print(text)
 print(f'papers: {len(papers)} papers; ' + ', '.join(f'{count} {sort}' for sort, count in counts.items()))
