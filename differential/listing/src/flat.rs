@@ -20,7 +20,7 @@ pub fn listing(flat: &Flat) -> Vec<Numbered> {
     // "Services by priority, stable"
     let mut order: Vec<usize> = (0..asked.services()).collect();
     order.sort_by_key(|i| asked.service(*i)[0] % 65536);
-    // "skip those without ECH if ECH is on and any has it"
+    // "skip those without ECH", if ECH is on and a service has it
     let has_ech = |i: &usize| asked.service(*i)[2] != 0;
     let sealed = asked.rule(7) % 2 == 1 && order.iter().any(has_ech);
     order.retain(|i| !sealed || has_ech(i));
