@@ -1,9 +1,9 @@
 -- The listing as endpoints: each tier's endpoints interleaved by rank and family of the target, its members, when none of it is left, and what of the
 -- records it depends on (of the configuration it is given no more than it reads); and how many ranks versions give.
-use Prim.Native.Nat.{ℕ, _+_, _≤_}
-use mathlib.Core.Path.{_≡_, refl, sym, ap, _∙_}
-use mathlib.Core.Bool.{Bool, true, false, not, cond, Bool·not-not}
-use mathlib.Core.List.{List, [], _∷_, _++_, map, map-append, List·Memᴰ, Memᴰ·map, Memᴰ·of-map}
+use Prim.Native.Nat.{_≤_}
+use mathlib.Core.Path.{_≡_, sym, ap, _∙_}
+use mathlib.Core.Bool.{Bool, true, false, not, Bool·not-not}
+use mathlib.Core.List.{List, map, List·Memᴰ, Memᴰ·map, Memᴰ·of-map}
 use mathlib.Core.Option.{none}
 use native.Mathlib.Omega.{arith}
 use lib.ListN.{length, take, length-append}
@@ -13,13 +13,12 @@ use Rattle.deal.proofs.Laws.{natural, group-ext}
 use Rattle.records.specs.Numbers.{rankNumber}
 use Rattle.records.specs.Names.{sameAt}
 use Rattle.records.specs.Endpoints.{Shown, shown}
-use Rattle.records.specs.References.{literalAt, targetOf, endpointOf}
+use Rattle.records.specs.References.{endpointOf}
 use Rattle.listing.specs.Held.{Same}
 use Rattle.records.specs.Lists.{each, firstOf}
 use Rattle.listing.specs.Items.{groupOf, endpointGroup}
-use Rattle.listing.specs.Listing.{quic, combined, fromHttpVersions, usable, serviceHeld, serviceHints, serviceRuns, originTargets, originRuns, altTargets, altRuns, altsFrom, lastRuns, tierItems, serviceTiers, tiers, dealt, itemsToAttempt, endpointsToAttempt, shownToAttempt}
+use Rattle.listing.specs.Listing.{quic, combined, fromHttpVersions, tiers, dealt, itemsToAttempt, endpointsToAttempt, shownToAttempt}
 use Rattle.records.specs.Rules.{prefersSix}
-use Rattle.records.specs.Services.{anyEch}
 use Rattle.records.specs.declared.rules.Rules.{Rules}
 use Rattle.records.specs.declared.rules.Versions.{Versions}
 use Rattle.records.specs.declared.rules.Alts.{Alts}
@@ -30,8 +29,9 @@ use Rattle.records.specs.declared.names.Names.{Names}
 use Rattle.records.specs.declared.names.Echs.{Echs}
 use Rattle.records.specs.declared.endpoints.Endpoint.{Endpoint}
 use Rattle.records.specs.declared.references.Item.{Item}
+use Rattle.records.proofs.First.{none-if, only-if-none}
 use Rattle.listing.proofs.Tiers.{map-each, each-map}
-use Rattle.listing.proofs.Laws.{family-right, none-if, only-if-none, listed-member, member-listed, known, held-only}
+use Rattle.listing.proofs.Laws.{family-right, listed-member, member-listed, known, held-only}
 
 module _ (r : Rules) (a : Alts) (d : Answers) (s : Services) where
   -- a reference stands in the group of its endpoint

@@ -1,15 +1,14 @@
 -- What a reader of the listing may rely on: its size, its members, when none is left, what it depends on, and the family of each reference.
-use Prim.Native.Nat.{ℕ, _+_, _≤_}
+use Prim.Native.Nat.{ℕ, _+_}
 use mathlib.Core.Path.{_≡_, refl, sym, ap, _∙_, subst}
 use mathlib.Core.Logic.{⊎-elim}
 use mathlib.Core.Bool.{Bool, true, false, cond, _&&_}
 use mathlib.Core.List.{List, [], _∷_, _++_, map, List·Memᴰ, List·Memᴰ·not-nil, List·Memᴰ·cases-cons, List·Memᴰ·append-cases, Memᴰ·append-left, Memᴰ·append-right}
 use mathlib.Core.List.List·Memᴰ.{List·Memᴰ·head, List·Memᴰ·tail}
-use mathlib.Core.Option.{none, some}
 use native.Mathlib.Omega.{arith}
 use lib.Dec.{eqb}
 use borrow.Author.Tests.{eq-eqb}
-use lib.ListN.{length, take, length-append, length-map, length-take}
+use lib.ListN.{take}
 use Rattle.deal.specs.Interleaving.{consIf, keep, queue, interleave}
 use Rattle.deal.proofs.Lists.{mem-keep}
 use Rattle.deal.proofs.Laws.{interleave-member, inner-order}
@@ -17,10 +16,10 @@ use Rattle.records.specs.References.{targetOf, literalAt, literalSix, literalFo
 use Rattle.records.specs.Numbers.{kindNumber}
 use Rattle.records.specs.Queries.{answered}
 use Rattle.listing.specs.Held.{heldCount, isFor, isHeld, firstHeld, heldAt, heldTargets, Same}
-use Rattle.records.specs.Lists.{each, firstOf}
+use Rattle.records.specs.Lists.{each}
 use Rattle.listing.specs.Items.{familyOf, groupOf, targetFamily}
 use Rattle.records.specs.Rules.{prefersSix, byName}
-use Rattle.listing.specs.Listing.{oneTarget, ordered, usable, serviceAt, serviceHeld, serviceRuns, originOf, ownTargets, originTargets, originRuns, altTargets, altRuns, altsFrom, lastRuns, tierItems, serviceTiers, tiers, dealt, itemsToAttempt}
+use Rattle.listing.specs.Listing.{oneTarget, usable, serviceAt, serviceHeld, serviceRuns, originOf, ownTargets, originTargets, originRuns, altTargets, altRuns, altsFrom, lastRuns, tierItems, serviceTiers, tiers, dealt, itemsToAttempt}
 use Rattle.records.specs.Services.{anyEch}
 use Rattle.records.specs.declared.queries.Kind.{Kind}
 use Rattle.records.specs.declared.queries.Kind.the-variants.{Aaaa, A}
@@ -83,32 +82,6 @@ module _ (r : Rules) (x : Item) (xs : List Item) where
       let f = groupOf (prefersSix (r .preference)) in
       mem-keep (λ y. eqb (f y) (f x)) (interleave f xs)
       (subst (λ l. List·Memᴰ x l) (sym (inner-order f xs (f x) (eight-groups (prefersSix (r .preference)) x))) (keep-in (λ y. eqb (f y) (f x)) xs m (eq-eqb (f x) (f x) refl))) .0
-
-module _ {A : Type 0} where
-  -- none is left exactly when no member passes the test
-  pub none-if : (test : A → Bool) (xs : List A) → ((x : A) → List·Memᴰ x xs → test x ≡ false) → firstOf test xs ≡ none
-  unfolding firstOf
-  none-if test [] h = refl
-  none-if test (x ∷ xs) h = rw (h x (List·Memᴰ·head refl)) (none-if test xs (λ i m. h i (List·Memᴰ·tail m)))
-
-  pub only-if-none : (test : A → Bool) (xs : List A) → firstOf test xs ≡ none → (x : A) → List·Memᴰ x xs → test x ≡ false
-  unfolding firstOf
-  only-if-none test [] e x m = absurd (List·Memᴰ·not-nil m)
-  only-if-none test (y ∷ ys) e x m = go (test y) refl e (only-if-none test ys)
-    where
-      go : (b : Bool) → test y ≡ b → cond b (some y) (firstOf test ys) ≡ none → (firstOf test ys ≡ none → (z : A) → List·Memᴰ z ys → test z ≡ false) → test x ≡ false
-      go true t q ih = cc
-      go false t q ih = ⊎-elim (λ s. ap test s ∙ t) (λ r. ih q x r) (List·Memᴰ·cases-cons m)
-
-  -- the first that passes is a member, and passes
-  pub first-member : (test : A → Bool) (xs : List A) (x : A) → firstOf test xs ≡ some x → List·Memᴰ x xs × (test x ≡ true)
-  unfolding firstOf
-  first-member test [] x e = absurd (let z : _≡_ {A = ℕ} 0 1 = cc in omega arith)
-  first-member test (y ∷ ys) x e = go (test y) refl e (first-member test ys x)
-    where
-      go : (b : Bool) → test y ≡ b → cond b (some y) (firstOf test ys) ≡ some x → (firstOf test ys ≡ some x → List·Memᴰ x ys × (test x ≡ true)) → List·Memᴰ x (y ∷ ys) × (test x ≡ true)
-      go true t q ih = let s : x ≡ y = cc in (List·Memᴰ·head s, ap test s ∙ t)
-      go false t q ih = (List·Memᴰ·tail (ih q .0), ih q .1)
 
 -- a member of the listing is a member of one of its tiers, and the other way round
 mem-each : {A B : Type 0} {x : B} (f : A → List B) (l : List A) → List·Memᴰ x (each f l) → (t : A) × List·Memᴰ t l × List·Memᴰ x (f t)

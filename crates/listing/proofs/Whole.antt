@@ -1,15 +1,19 @@
--- The listing out of its tiers: what tier k is, how many there are, and one tier more at the end.
+-- The listing out of its tiers: what tier k is, how many there are, one tier more at the end, and the first of it that passes a test.
 use Prim.Native.Nat.{ℕ, zero, suc, _+_, _*_, _≤_, _<_}
 use mathlib.Core.Path.{_≡_, refl, sym, ap, _∙_}
 use mathlib.Core.Bool.{Bool, true, false, cond}
-use mathlib.Core.List.{List, [], _∷_, _++_, map}
+use mathlib.Core.List.{List, [], _∷_, _++_, map, map-map}
 use native.Mathlib.Numerals.{add-one}
 use native.Mathlib.Decide.{decLt}
 use native.Mathlib.Omega.{arith}
 use lib.ListN.{length, take, drop, getD, length-append, length-map, List·getD-append, List·getD-eq-default, take-append-drop}
 use lib.Seq.{take-suc, take-all, getD-append-add}
-use Rattle.deal.specs.Interleaving.{interleave}
-use Rattle.records.specs.Lists.{each}
+use Rattle.deal.specs.Interleaving.{interleave, upto}
+use Rattle.deal.proofs.Laws.{map-upto}
+use Rattle.records.specs.Lists.{each, firstOf, firstSome}
+use Rattle.records.specs.References.{noItem}
+use Rattle.records.proofs.First.{first-each}
+use Rattle.records.proofs.Rooms.{padded-past}
 use Rattle.records.specs.Rules.{prefersSix}
 use Rattle.records.specs.Services.{anyEch}
 use Rattle.records.specs.declared.rules.Rules.{Rules}
@@ -20,7 +24,6 @@ use Rattle.records.specs.declared.references.Item.{Item}
 use Rattle.listing.specs.declared.tier.Tier.{Tier}
 use Rattle.listing.specs.declared.Listing.{Listing}
 use Rattle.listing.specs.Held.{Same}
-use Rattle.listing.specs.Items.{groupOf}
 use Rattle.listing.specs.Listing.{serviceAt, serviceRuns, lastRuns, usable, tierItems, serviceTiers, tiers, dealt, tierCount, tierAt, itemsToAttempt}
 use Rattle.listing.specs.Room.{listed, heldItems, tiered, tierMembers}
 use Rattle.listing.proofs.Tiers.{each-append, each-one, each-none, each-map}
@@ -197,3 +200,30 @@ module _ (r : Rules) (a : Alts) (q : Queries) (s : Services) (n : Same) where
     pub listed-full : length (s .list) ≡ 4 → 5 ≤ k → l ≡ listed (itemsToAttempt r a q s n)
     unfolding tierCount
     listed-full rooms h = listed-end (omega (arith, usable-four (r .ech) s rooms, at-most-one (anyEch (r .ech) s)))
+
+-- The first of the listing that passes a test is that of the first tier that has one; there is none exactly if no tier has one (records, First).
+module _ (r : Rules) (a : Alts) (q : Queries) (s : Services) (n : Same) where
+  tiers-dealt : map (dealt r) (tiers r a q s n) ≡ map (tierAt r a q s n) (upto (tierCount r s))
+  unfolding tierAt
+  tiers-dealt =
+      let l = tiers r a q s n in
+      ap (map (dealt r)) (sym (map-upto l [] (length l) (omega arith) ∙ take-all (length l) l (omega arith)))
+      ∙ (map-map (dealt r) (λ k. getD l k []) (upto (length l))
+      ∙ ap (λ k. map (tierAt r a q s n) (upto k)) (tier-count r a q s n))
+
+  -- the listing is its tiers one after the other
+  pub tier-by-tier : itemsToAttempt r a q s n ≡ each (tierAt r a q s n) (upto (tierCount r s))
+  unfolding itemsToAttempt
+  tier-by-tier = sym (each-map (λ t. t) (dealt r) (tiers r a q s n)) ∙ (ap (each (λ t. t)) tiers-dealt ∙ each-map (λ t. t) (tierAt r a q s n) (upto (tierCount r s)))
+
+  pub first-tier : (test : Item → Bool) → firstOf test (itemsToAttempt r a q s n) ≡ firstSome (map (λ k. firstOf test (tierAt r a q s n k)) (upto (tierCount r s)))
+  first-tier test = ap (firstOf test) tier-by-tier ∙ first-each test (tierAt r a q s n) (upto (tierCount r s))
+
+-- A listing and a tier are zero past their counts.
+pub listed-zero : (xs : List Item) (k : ℕ) → length xs ≤ k → getD (listed xs .list) k noItem ≡ noItem
+unfolding listed
+listed-zero xs k h = padded-past noItem 272 xs k h
+
+pub tiered-zero : (xs : List Item) (k : ℕ) → length xs ≤ k → getD (tiered xs .list) k noItem ≡ noItem
+unfolding tiered
+tiered-zero xs k h = padded-past noItem 80 xs k h

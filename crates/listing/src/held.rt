@@ -2,7 +2,7 @@
 ghost use Prim.Native.Nat.{min};
 ghost use mathlib.Core.Path.{_≡_};
 ghost use Rattle.records.specs.Classes.{sameClass};
-ghost use Rattle.listing.specs.Held.{isFor, heldCount, heldAt, heldTargets};
+ghost use Rattle.listing.specs.Held.{isFor, heldCount, heldAt};
 use records::names::SameNames;
 use records::names::same_class;
 use records::queries::Answer;

@@ -5,5 +5,7 @@ pub mod Classes
 pub mod Walk
 pub mod Rooms
 pub mod Zeros
+pub mod First
+pub mod Stable
 pub mod Numbered
 pub mod Alike

@@ -1,9 +1,9 @@
 -- A list in a room whose rest is zero: one member more, and reading it back.
-use Prim.Native.Nat.{ℕ, zero, suc, _-_, _<_}
+use Prim.Native.Nat.{ℕ, zero, suc, _-_, _<_, _≤_}
 use mathlib.Core.Path.{_≡_, refl, sym, ap, _∙_}
 use mathlib.Core.List.{List, [], _∷_, _++_, map, append-assoc}
 use native.Mathlib.Omega.{arith}
-use lib.ListN.{length, take, getD, set, replicate, length-append}
+use lib.ListN.{length, take, getD, set, replicate, length-append, List·getD-eq-default}
 use lib.Seq.{set-at, take-at}
 use Rattle.records.specs.Lists.{padded}
 
@@ -40,6 +40,10 @@ module _ {A : Type 0} (z : A) where
   pub padded-at : (n : ℕ) (xs : List A) (i : ℕ) → getD (padded n z xs) i z ≡ getD xs i z
   unfolding padded
   padded-at n xs i = getD-before (n - length xs) xs i
+
+  -- past the list the room is zero
+  pub padded-past : (n : ℕ) (xs : List A) (i : ℕ) → length xs ≤ i → getD (padded n z xs) i z ≡ z
+  padded-past n xs i h = padded-at n xs i ∙ List·getD-eq-default xs z h
 
 pub map-same : {A B : Type 0} (f g : A → B) (xs : List A) → ((x : A) → f x ≡ g x) → map f xs ≡ map g xs
 map-same f g [] h = refl

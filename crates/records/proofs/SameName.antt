@@ -1,8 +1,6 @@
 -- Names are compared by an equivalence. The crates above use no more of `sameName` than this.
-use mathlib.Core.Path.{_≡_, refl, sym, ap, _∙_}
+use mathlib.Core.Path.{_≡_, ap, _∙_}
 use mathlib.Core.Bool.{Bool, true}
-use Prim.Native.Nat.{ℕ}
-use mathlib.Core.List.{List}
 use Rattle.records.specs.Names.{sameName, nameBytesAt, sameAt}
 use Rattle.records.specs.declared.names.Names.{Names}
 use Rattle.records.proofs.Bytes.{same-refl, same-equal}

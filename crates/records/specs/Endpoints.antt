@@ -50,6 +50,16 @@ shownEch echs (At p) = some (echBytesAt echs p)
 abbrev pub shown : Names → Echs → Endpoint → Shown
 shown names echs e = record { target = shownTarget names (e .target); port = e .port; rank = e .rank; ech = shownEch echs (e .ech) }
 
+-- whether an endpoint names a place of the two tables
+abbrev pub namesPlace : Target → ℕ → Bool
+namesPlace (V4 a) p = false
+namesPlace (V6 h l s) p = false
+namesPlace (Named q) p = eqb q p
+
+abbrev pub sealsPlace : EchPlace → ℕ → Bool
+sealsPlace Without p = false
+sealsPlace (At q) p = eqb q p
+
 abbrev pub sameTarget : ShownTarget → ShownTarget → Bool
 sameTarget (four a) (four b) = eqb a b
 sameTarget (four a) (six h l s) = false

@@ -22,6 +22,15 @@ unfoldable pub firstOf : {A : Type 0} → (A → Bool) → List A → Option A
 firstOf test [] = none
 firstOf test (x ∷ xs) = cond (test x) (some x) (firstOf test xs)
 
+-- the first that there is of a list of answers
+abbrev pub orElse : {A : Type 0} → Option A → Option A → Option A
+orElse none o = o
+orElse (some x) o = some x
+
+unfoldable pub firstSome : {A : Type 0} → List (Option A) → Option A
+firstSome [] = none
+firstSome (o ∷ l) = orElse o (firstSome l)
+
 -- a list in a room of n, the rest of it z
 unfoldable pub padded : {A : Type 0} → ℕ → A → List A → List A
 padded n z xs = xs ++ replicate (n - length xs) z

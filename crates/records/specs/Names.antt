@@ -3,7 +3,7 @@ use Prim.Native.Nat.{ℕ}
 use mathlib.Core.Bool.{Bool, true, false, cond, _&&_}
 use mathlib.Core.List.{List, [], _∷_}
 use lib.Dec.{eqb}
-use lib.ListN.{length, take, replicate}
+use lib.ListN.{length, take, set, replicate}
 use Rattle.numbers.specs.Names.{undotted}
 use Rattle.records.specs.Lists.{cell}
 use Rattle.records.specs.declared.names.Name.{Name}
@@ -60,6 +60,13 @@ nameBytesAt t p = nameBytes (nameAt t p)
 
 abbrev pub echBytesAt : Echs → ℕ → List ℕ
 echBytesAt t p = echBytes (echAt t p)
+
+-- a table with another name or other ECH bytes at a place
+abbrev pub withName : Names → ℕ → Name → Names
+withName t p x = record { list = set (t .list) p x }
+
+abbrev pub withEch : Echs → ℕ → Ech → Echs
+withEch t p x = record { list = set (t .list) p x }
 
 -- whether the names at two places are the same
 unfoldable pub sameAt : Names → ℕ → ℕ → Bool

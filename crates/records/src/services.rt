@@ -1,6 +1,5 @@
 // The services of the HTTPS answer that is held.
 ghost use mathlib.Core.Path.{_≡_};
-ghost use mathlib.Core.Bool.{_&&_};
 ghost use Rattle.records.specs.Lists.{some?};
 ghost use Rattle.records.specs.Services.{noHint, noService, noServices, hasEch, offered, anyEch, isUsable, hintSix, hintFour};
 use super::names::EchPlace;

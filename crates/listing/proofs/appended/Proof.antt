@@ -6,7 +6,7 @@ use native.Mathlib.Omega.{arith}
 use lib.ListN.{length, take, length-map}
 use Rattle.records.specs.Lists.{padded}
 use Rattle.records.specs.References.{noItem}
-use Rattle.listing.specs.Room.{heldItems, listed, tierMembers}
+use Rattle.listing.specs.Room.{heldItems, listed}
 use Rattle.listing.proofs.Appending.{held-count, held-list, map-id, filled, fill-more}
 use borrow.Author.Needs.{needs}
 use Rattle.listing.proofs.appended.Statement.{statement}

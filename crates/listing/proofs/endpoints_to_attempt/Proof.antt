@@ -1,6 +1,6 @@
 -- `listing::endpoints_to_attempt` meets its contract: tier after tier, and the classes of names say what their bytes say.
 use Prim.Native.Nat.{_-_}
-use mathlib.Core.Path.{_≡_, sym, ap, _∙_}
+use mathlib.Core.Path.{_≡_, ap, _∙_}
 use native.Mathlib.Omega.{arith}
 use lib.ListN.{length, length-map}
 use Rattle.records.specs.Names.{sameAt}

@@ -1,5 +1,5 @@
 -- `listing::tier_count` meets its contract.
-use mathlib.Core.Path.{_≡_, sym, ap, _∙_}
+use mathlib.Core.Path.{_≡_, _∙_}
 use native.Mathlib.Omega.{arith}
 use lib.ListN.{length, length-map}
 use Rattle.listing.specs.Listing.{tierCount}

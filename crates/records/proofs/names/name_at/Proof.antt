@@ -1,5 +1,4 @@
 -- `records::names::name_at` meets its contract: past the table stands the zero.
-use mathlib.Core.Path.{_∙_}
 use borrow.Author.Tests.{lt-ltb, le-ltb}
 use Rattle.records.specs.Names.{nameAt}
 use borrow.Author.Needs.{needs}

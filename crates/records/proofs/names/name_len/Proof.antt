@@ -1,7 +1,6 @@
 -- `records::names::name_len` meets its contract: a length past the room is cut at it.
-use mathlib.Core.Path.{_≡_, sym, _∙_}
+use mathlib.Core.Path.{_≡_, _∙_}
 use lib.ListN.{length, length-take}
-use native.Mathlib.Omega.{arith}
 use Rattle.records.specs.Names.{nameBytes}
 use borrow.Author.Needs.{needs}
 use Rattle.records.proofs.names.name_len.Statement.{statement}
