@@ -19,9 +19,9 @@ use Rattle.records.specs.declared.references.Source.{Source}
 use Rattle.records.specs.declared.references.Source.the-variants.{Held6, Held4, Hint6, Hint4, Literal6, Literal4, Name}
 use Rattle.records.specs.declared.references.Item.{Item}
 use Rattle.records.proofs.Rooms.{padded-set, padded-take, map-same, padded-at}
-use Rattle.listing.specs.declared.tier.Undealt.{Undealt}
-use Rattle.listing.specs.declared.tier.DealtOrder.{DealtOrder}
-use Rattle.listing.specs.declared.tier.Tier.{Tier}
+use Rattle.listing.specs.declared.runs.Undealt.{Undealt}
+use Rattle.listing.specs.declared.runs.DealtOrder.{DealtOrder}
+use Rattle.listing.specs.declared.Tier.{Tier}
 use Rattle.listing.specs.declared.Listing.{Listing}
 use Rattle.listing.specs.Items.{familyOf, groupOf}
 use Rattle.listing.specs.Room.{listed, heldItems, grouped, tiered, tierMembers}

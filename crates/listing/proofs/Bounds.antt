@@ -29,7 +29,7 @@ use Rattle.records.specs.declared.endpoints.Rank.the-variants as rank
 use Rattle.records.specs.declared.names.EchPlace.{EchPlace}
 use Rattle.records.specs.declared.names.EchPlace.the-variants.{Without}
 use Rattle.listing.specs.declared.hosts.HostTargets.{HostTargets}
-use Rattle.listing.specs.declared.tier.Run.{Run}
+use Rattle.listing.specs.declared.runs.Run.{Run}
 use Rattle.listing.proofs.Tiers.{items-append, run-length, head-length}
 
 -- how many endpoints a pair of parts has

@@ -25,7 +25,7 @@ use Rattle.records.specs.declared.endpoints.Rank.{Rank}
 use Rattle.records.specs.declared.names.EchPlace.{EchPlace}
 use Rattle.records.specs.declared.references.Source.the-variants.{Held6, Held4}
 use Rattle.records.specs.declared.references.Item.{Item}
-use Rattle.listing.specs.declared.tier.Run.{Run}
+use Rattle.listing.specs.declared.runs.Run.{Run}
 use Rattle.listing.proofs.Tiers.{items-append, each-one}
 
 keep-const : {X : Type 0} (b : Bool) (l : List X) → keep (λ x. b) l ≡ cond b l []

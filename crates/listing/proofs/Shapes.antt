@@ -23,7 +23,7 @@ use Rattle.records.specs.declared.endpoints.Rank.{Rank}
 use Rattle.records.specs.declared.names.EchPlace.{EchPlace}
 use Rattle.listing.specs.declared.hosts.HostTargets.{HostTargets}
 use Rattle.listing.specs.declared.versions.Ranks.{Ranks}
-use Rattle.listing.specs.declared.tier.Run.{Run}
+use Rattle.listing.specs.declared.runs.Run.{Run}
 use Rattle.listing.proofs.Tiers.{items-append}
 
 -- a lot that is off is empty

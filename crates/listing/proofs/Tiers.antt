@@ -12,14 +12,14 @@ use Rattle.deal.proofs.Laws.{length-upto}
 use Rattle.records.specs.declared.endpoints.Rank.the-variants as rank
 use Rattle.records.specs.declared.names.EchPlace.the-variants.{Without}
 use Rattle.records.specs.declared.references.Source.the-variants.{Held6}
-use Rattle.listing.specs.declared.tier.Run.{Run}
+use Rattle.listing.specs.declared.runs.Run.{Run}
 use Rattle.records.specs.declared.references.Item.{Item}
 use Rattle.records.specs.Lists.{each, padded}
 use Rattle.records.specs.References.{noItem}
 use Rattle.listing.specs.Items.{groupOf, itemOf, runItems}
 use Rattle.listing.specs.Room.{grouped}
 use Rattle.listing.specs.Listing.{tierItems}
-use Rattle.listing.specs.declared.tier.Undealt.{Undealt}
+use Rattle.listing.specs.declared.runs.Undealt.{Undealt}
 use Rattle.records.proofs.Rooms.{padded-set}
 
 module _ {A B : Type 0} (f : A → List B) where

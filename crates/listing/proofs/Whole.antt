@@ -21,7 +21,7 @@ use Rattle.records.specs.declared.rules.Alts.{Alts}
 use Rattle.records.specs.declared.queries.Queries.{Queries}
 use Rattle.records.specs.declared.services.Services.{Services}
 use Rattle.records.specs.declared.references.Item.{Item}
-use Rattle.listing.specs.declared.tier.Tier.{Tier}
+use Rattle.listing.specs.declared.Tier.{Tier}
 use Rattle.listing.specs.declared.Listing.{Listing}
 use Rattle.listing.specs.Held.{Same}
 use Rattle.listing.specs.Listing.{serviceAt, serviceRuns, lastRuns, usable, tierItems, serviceTiers, tiers, dealt, tierCount, tierAt, itemsToAttempt}

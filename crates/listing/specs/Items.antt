@@ -13,7 +13,7 @@ use Rattle.records.specs.declared.endpoints.Target.{Target}
 use Rattle.records.specs.declared.endpoints.Target.the-variants.{V4, V6, Named}
 use Rattle.records.specs.declared.endpoints.Endpoint.{Endpoint}
 use Rattle.listing.specs.declared.hosts.Targets.{Targets}
-use Rattle.listing.specs.declared.tier.Run.{Run}
+use Rattle.listing.specs.declared.runs.Run.{Run}
 use Rattle.records.specs.declared.references.Item.{Item}
 
 -- 0 for the preferred family, 1 for the other; "Names count as preferred"

@@ -45,7 +45,7 @@ use Rattle.records.specs.declared.references.Source.the-variants.{Held6, Hint6,
 use Rattle.records.specs.declared.references.Item.{Item}
 use Rattle.listing.specs.declared.hosts.Targets.{Targets}
 use Rattle.listing.specs.declared.hosts.HostTargets.{HostTargets}
-use Rattle.listing.specs.declared.tier.Run.{Run}
+use Rattle.listing.specs.declared.runs.Run.{Run}
 use Rattle.listing.specs.Order.{byPriority}
 use Rattle.listing.specs.Items.{run, runItems, groupOf}
 use Rattle.listing.specs.Held.{Same, heldTargets}

@@ -19,10 +19,10 @@ use Rattle.records.specs.declared.references.Item.{Item}
 use Rattle.listing.specs.declared.versions.Ranks.{Ranks}
 use Rattle.listing.specs.declared.hosts.Targets.{Targets}
 use Rattle.listing.specs.declared.hosts.HostTargets.{HostTargets}
-use Rattle.listing.specs.declared.tier.Run.{Run}
-use Rattle.listing.specs.declared.tier.HostRuns.{HostRuns}
-use Rattle.listing.specs.declared.tier.Undealt.{Undealt}
-use Rattle.listing.specs.declared.tier.Tier.{Tier}
+use Rattle.listing.specs.declared.runs.Run.{Run}
+use Rattle.listing.specs.declared.runs.HostRuns.{HostRuns}
+use Rattle.listing.specs.declared.runs.Undealt.{Undealt}
+use Rattle.listing.specs.declared.Tier.{Tier}
 use Rattle.listing.specs.declared.order.ServiceOrder.{ServiceOrder}
 use Rattle.listing.specs.declared.Listing.{Listing}
 use Rattle.listing.specs.Held.{Same}
