@@ -103,7 +103,8 @@ impl Race {
     }
 }
 
-/// Puts each record's name at the first place that holds it, as a machine does.
+/// Puts each record's name at the first place that holds it: the origin's records are at 0 even
+/// where a service has the origin's name. The choice sets how many names are compared by bytes.
 fn first_places(flat: &mut Flat) {
     for i in 0..flat.numbers[QUERIES] as usize {
         let at = QUERIES + 1 + QUERY * i + 1;
