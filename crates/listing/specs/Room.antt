@@ -1,4 +1,5 @@
--- What the code keeps: lists in rooms, with what is unused zero. A reader needs `listed`, `tiered` and `ranked` of it, which promises cite.
+-- What the code keeps: lists in rooms, with what is unused zero (rules S.2 and S.8). A reader needs `listed` and `tiered` of it, which public
+-- promises cite, and `ranked`: rule 4.3 (document 01, part 4).
 use Prim.Native.Nat.{ℕ, _≤_, _<_}
 use mathlib.Core.Path.{_≡_}
 use mathlib.Core.Bool.{Bool, false, cond}
