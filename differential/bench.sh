@@ -5,7 +5,7 @@ cd "$(dirname "$0")"
 mkdir -p ../target/differential
 
 ./install.sh
-(cd .. && rt staticlib states >target/differential/states.log 2>&1) || { cat ../target/differential/states.log; exit 1; }
+(cd .. && rt staticlib probes >target/differential/probes.log 2>&1) || { cat ../target/differential/probes.log; exit 1; }
 (cd oracle && cargo build --profile speed --offline --quiet -p bench)
 
 pin=""

@@ -3,7 +3,7 @@
 set -eu
 cd "$(dirname "$0")/.."
 mkdir -p target
-rt staticlib states >target/staticlib.log 2>&1 || { cat target/staticlib.log; exit 1; }
+rt staticlib probes >target/staticlib.log 2>&1 || { cat target/staticlib.log; exit 1; }
 cd differential
 cargo build --release --offline --quiet -p listing
 ../target/differential/release/listing 20000 20000 1

@@ -20,7 +20,7 @@ const BATCHES: usize = 300;
 const BATCH_NS: f64 = 200_000.0;
 
 fn main() {
-    assert!(listing::THERE, "no archive of the proved listing: `rt staticlib states`");
+    assert!(listing::THERE, "no archive of the proved listing: `rt staticlib probes`");
     let mut races: Vec<Race> = states::all().iter().map(Race::at).collect();
     for _ in 0..TURNS {
         races.iter_mut().for_each(Race::run);
