@@ -1,4 +1,4 @@
--- What a reader of the listing may rely on: its size, its members, when none is left, what it depends on, and the family of each reference.
+-- What a reader of the listing may rely on: its members, what of the records it depends on, and the family of each reference.
 use Prim.Native.Nat.{ℕ, _+_}
 use mathlib.Core.Path.{_≡_, refl, sym, ap, _∙_, subst}
 use mathlib.Core.Logic.{⊎-elim}
@@ -103,7 +103,7 @@ module _ (r : Rules) (a : Alts) (q : Queries) (s : Services) (n : Same) (x : Ite
   unfolding itemsToAttempt
   member-listed t m h = each-mem (dealt r) (tiers r a q s n) t m (dealt-all r x t h)
 
--- Of the records the listing reads only what is known of each: not ids, moments, staleness or refreshes (what it reads of the rules: Endpoints).
+-- Of the records the listing reads only what is known of each: not ids, moments, staleness or refreshes.
 -- what counts of a record: its type, its name, whether it is answered, how many addresses it holds
 pub record Known : Type 0 where
   pub kind : Kind
