@@ -95,6 +95,22 @@ fn host<'a>(origin: &'a [u8], own: &'a [u8]) -> &'a [u8] {
     [own, origin].into_iter().map(undotted).find(|name| !name.is_empty()).unwrap_or(&[])
 }
 
+fn connect(origin: &[u8], own: &[u8], out: &mut [u8], words: &mut [u64]) -> u8 {
+    // Four slices, of which the last two overlap with none, each with its own length.
+    unsafe {
+        probe_connect_name(
+            origin.as_ptr(),
+            origin.len(),
+            own.as_ptr(),
+            own.len(),
+            out.as_mut_ptr(),
+            out.len(),
+            words.as_mut_ptr(),
+            words.len(),
+        )
+    }
+}
+
 /// Room and words lie inside larger ones, with random bytes in them before the call.
 fn connect_names(random: &mut Random) -> Tally {
     let outcomes = &["its own", "its own without a dot", "the origin's", "none", "no room"];
@@ -113,20 +129,7 @@ fn connect_names(random: &mut Random) -> Tally {
             out_after[GUARD..][..found.len()].copy_from_slice(found);
             words_after[GUARD..][..lent.min(1)].fill(found.len() as u64);
         }
-        // Four slices that don't overlap, each with its own length.
-        let number = unsafe {
-            let (out, words) = (&mut out[GUARD..GUARD + room], &mut words[GUARD..GUARD + lent]);
-            probe_connect_name(
-                origin.as_ptr(),
-                origin.len(),
-                own.as_ptr(),
-                own.len(),
-                out.as_mut_ptr(),
-                out.len(),
-                words.as_mut_ptr(),
-                words.len(),
-            )
-        };
+        let number = connect(origin, own, &mut out[GUARD..GUARD + room], &mut words[GUARD..GUARD + lent]);
         let outcome = match found {
             _ if !fits => 4,
             [] => 3,

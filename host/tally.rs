@@ -1,4 +1,4 @@
-//! Comparisons, counted by what came of them.
+//! What the programs here count: comparisons, by what came of them.
 
 use crate::rng::Random;
 use std::fmt::{Arguments, Debug};

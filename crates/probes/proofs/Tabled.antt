@@ -9,7 +9,7 @@ use lib.Seq.{getD-set-same, getD-set-other, ext-getD}
 use Rattle.probes.specs.Flat.{tabled}
 
 module _ {A : Type 0} (f : ℕ → A) where
-  pub tabled-length : (i n : ℕ) → length (tabled f i n) ≡ n
+  tabled-length : (i n : ℕ) → length (tabled f i n) ≡ n
   unfolding tabled
   tabled-length i zero = refl
   tabled-length i (suc n) = ap suc (tabled-length (i + 1) n)
