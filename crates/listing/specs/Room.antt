@@ -74,10 +74,7 @@ atRanks held hints k port ech =
 unfoldable pub altRunsAt : Rules → Queries → Same → Alts → ℕ → List Run
 altRunsAt r q same a i = cond (ltb i (a .count)) (altRuns r q same i (getD (a .list) i noAlt)) []
 
--- what a listing holds, and what a tier has
-abbrev pub heldItems : Listing → List Item
-heldItems l = take (l .count) (l .list)
-
+-- what a tier has
 abbrev pub tierMembers : Tier → List Item
 tierMembers t = take (t .count) (t .list)
 
