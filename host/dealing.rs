@@ -1,4 +1,8 @@
-//! `deal`, over the archive of the crate `dealing`: compared with document 01's rule on random lists; with `--speed`, timed against plain Rust.
+//! `deal`, over the entry of the crate `probes`: compared with document 01's rule on random lists; with `--speed`, timed against plain Rust.
+mod rng;
+mod run;
+
+use rng::Random;
 use std::collections::VecDeque;
 use std::hint::black_box;
 use std::time::Instant;
@@ -7,13 +11,13 @@ const LONGEST: usize = 272;
 const GUARD: usize = 16;
 
 extern "C" {
-    fn deal_positions(groups: *const u8, len: usize, out: *mut u16, room: usize) -> u64;
+    fn probe_deal(groups: *const u8, len: usize, out: *mut u16, room: usize) -> u8;
 }
 
 #[inline(never)]
-fn deal(groups: &[u8], out: &mut [u16]) -> u64 {
+fn deal(groups: &[u8], out: &mut [u16]) -> u8 {
     // Both slices are whole, and they don't overlap.
-    unsafe { deal_positions(groups.as_ptr(), groups.len(), out.as_mut_ptr(), out.len()) }
+    unsafe { probe_deal(groups.as_ptr(), groups.len(), out.as_mut_ptr(), out.len()) }
 }
 
 /// Document 01, part 3, with one queue for each group: each round gives the front of every queue that has one.
@@ -57,7 +61,7 @@ fn by_arrays(groups: &[u8], out: &mut [u16]) {
     }
 }
 
-fn answer(groups: &[u8], room: usize) -> u64 {
+fn answer(groups: &[u8], room: usize) -> u8 {
     if groups.len() > LONGEST {
         1
     } else if room != groups.len() {
@@ -69,29 +73,20 @@ fn answer(groups: &[u8], room: usize) -> u64 {
     }
 }
 
-struct Random(u64);
-
-impl Random {
-    fn below(&mut self, n: u64) -> u64 {
-        self.0 = self.0.wrapping_mul(6364136223846793005).wrapping_add(1442695040888963407);
-        (self.0 >> 33) % n
-    }
-}
-
 /// Compares the answer and every place of the room on random lists, bad ones among them.
-fn compare(lists: u64) {
-    let mut random = Random(1);
+fn compare(random: &mut Random) {
+    const LISTS: usize = 200_000;
     let mut seen = [0u64; 4];
-    for _ in 0..lists {
-        let len = random.below(LONGEST as u64 + 9) as usize;
+    for _ in 0..LISTS {
+        let len = random.below(LONGEST + 9);
         let kinds = random.below(8) + 1;
         let mut groups: Vec<u8> = (0..len).map(|_| random.below(kinds) as u8).collect();
-        if len > 0 && random.below(8) == 0 {
-            groups[random.below(len as u64) as usize] = (8 + random.below(248)) as u8;
+        if len > 0 && random.once_in(8) {
+            groups[random.below(len)] = 8 + random.below(248) as u8;
         }
-        let room = if random.below(8) == 0 { random.below(LONGEST as u64 + 9) as usize } else { len };
+        let room = if random.once_in(8) { random.below(LONGEST + 9) } else { len };
         // The room lies inside a larger one, so that a store outside it is seen.
-        let mut out: Vec<u16> = (0..room + 2 * GUARD).map(|_| random.below(1 << 16) as u16).collect();
+        let mut out: Vec<u16> = (0..room + 2 * GUARD).map(|_| random.next() as u16).collect();
         let mut wanted = out.clone();
         let expected = answer(&groups, room);
         if expected == 0 {
@@ -101,11 +96,9 @@ fn compare(lists: u64) {
         assert_eq!(out, wanted, "{groups:?}");
         seen[expected as usize] += 1;
     }
-    assert!(seen.iter().all(|&n| n > 0));
-    println!(
-        "{lists} random lists agree: {} dealt; {} too long, {} another room, {} no group",
-        seen[0], seen[1], seen[2], seen[3]
-    );
+    assert!(seen.iter().all(|&n| n > 0), "an answer never came: {seen:?}");
+    let [dealt, long, other, none] = seen;
+    println!("dealing: {LISTS} random lists agree: {dealt} dealt; {long} too long, {other} another room, {none} no group");
 }
 
 /// Nanoseconds for one call: the least of many batches.
@@ -137,9 +130,5 @@ fn speed() {
 }
 
 fn main() {
-    if std::env::args().any(|word| word == "--speed") {
-        speed();
-    } else {
-        compare(200_000);
-    }
+    run::run(compare, |_| speed());
 }

@@ -1,30 +1,65 @@
-//! Runs the Rattle leaves (numbers, names, delays, ids) against an independent Rust version of document 01.
+//! Runs the Rattle leaves (numbers, fields, refusals, names, delays, ids) against an independent Rust version of document 01.
 //!
 //! `leaves [SEED]` compares them on boundary and random inputs, counts what it compared, and ends with 1 at the first difference.
 //! `leaves --speed` times a delay call against the same in Rust.
 
-use std::fmt::{Arguments, Debug, Formatter};
-use std::hint::black_box;
-use std::process::exit;
-use std::time::Instant;
+mod rng;
+mod run;
+mod tally;
 
-/// What a reader says: 0 or the refusal's number; then, 0 if refused, what it found (a number's value, a name's first place)
-/// and the place after it.
+use rng::Random;
+use std::fmt::{Debug, Formatter};
+use std::hint::black_box;
+use std::time::Instant;
+use tally::Tally;
+
+/// What the words hold before an entry stores into them, and after it where it stores nothing.
+const UNTOUCHED: u64 = 0x5a5a_a5a5_0f0f_f0f0;
+/// As many words as the longest outcome has, and one to see a store too far.
+const WORDS: usize = 4;
+
+/// What an entry says: the outcome's number, 0 or the refusal's, and the words that it was lent.
 #[derive(Debug, PartialEq)]
-struct Answer<T> {
-    refusal: u8,
-    found: T,
-    next: usize,
+struct Answer {
+    number: u8,
+    words: [u64; WORDS],
 }
 
-impl<T: Default> From<Result<(T, usize), u8>> for Answer<T> {
-    fn from(read: Result<(T, usize), u8>) -> Self {
-        match read {
-            Ok((found, next)) => Answer { refusal: 0, found, next },
-            Err(refusal) => Answer { refusal, found: T::default(), next: 0 },
+impl Answer {
+    /// The values fill the first words; a refusal fills none.
+    fn new(outcome: Result<impl AsRef<[u64]>, u8>) -> Self {
+        let mut words = [UNTOUCHED; WORDS];
+        match outcome {
+            Ok(values) => {
+                let values = values.as_ref();
+                words[..values.len()].copy_from_slice(values);
+                Answer { number: 0, words }
+            }
+            Err(number) => Answer { number, words },
         }
     }
 }
+
+/// Bytes that were read: where they start, how many they are, and the place after them.
+type Span = [u64; 3];
+
+/// Document 01's table: the outcome of number 0, and the refusals by their numbers.
+const REFUSALS: [&str; 14] = [
+    "read",
+    "Cut",
+    "BadNumber",
+    "OutOfRange",
+    "BadName",
+    "TooMany",
+    "Trailing",
+    "UnknownId",
+    "AlreadyAnswered",
+    "WrongType",
+    "StaleRefresh",
+    "EchNotSent",
+    "AlreadyEnded",
+    "NoRoom",
+];
 
 /// Up to this length every place of a slice is tried.
 const SHORT: usize = 24;
@@ -57,100 +92,116 @@ impl Buffer {
     }
 }
 
-/// The Rattle side: the entries of the crate `leaves`.
+/// The Rattle side: the entries of the crate `probes`.
 mod rattle {
-    use super::{Answer, Buffer};
+    use super::{Answer, Buffer, UNTOUCHED, WORDS};
 
     extern "C" {
-        fn leaf_number_refusal(s: *const u8, len: usize, at: usize) -> u8;
-        fn leaf_number_value(s: *const u8, len: usize, at: usize) -> u64;
-        fn leaf_number_next(s: *const u8, len: usize, at: usize) -> usize;
-        fn leaf_number_len(n: u64) -> usize;
-        fn leaf_write_number(out: *mut u8, len: usize, at: usize, n: u64) -> u8;
-        fn leaf_put_bytes(out: *mut u8, len: usize, at: usize, bytes: *const u8, count: usize) -> u8;
-        fn leaf_name_ok(s: *const u8, len: usize) -> u8;
-        fn leaf_at_most_refusal(s: *const u8, len: usize, at: usize, limit: u64, many: bool) -> u8;
-        fn leaf_bytes_refusal(s: *const u8, len: usize, at: usize, count: usize) -> u8;
-        fn leaf_name_refusal(s: *const u8, len: usize, at: usize, limit: u64) -> u8;
-        fn leaf_name_start(s: *const u8, len: usize, at: usize, limit: u64) -> usize;
-        fn leaf_name_next(s: *const u8, len: usize, at: usize, limit: u64) -> usize;
-        fn leaf_factor(multiplier: u32, in_progress: u64) -> u32;
-        fn leaf_product(delay: u64, factor: u32) -> u64;
-        fn leaf_attempt_delay(delay: u64, multiplier: u32, in_progress: u64) -> u64;
-        fn leaf_next_id(id: u64) -> u64;
+        fn probe_read_number(s: *const u8, len: usize, at: usize, words: *mut u64, room: usize) -> u8;
+        fn probe_number_len(n: u64) -> usize;
+        fn probe_write_number(out: *mut u8, len: usize, at: usize, n: u64, words: *mut u64, room: usize) -> u8;
+        fn probe_put_bytes(
+            out: *mut u8,
+            len: usize,
+            at: usize,
+            bytes: *const u8,
+            count: usize,
+            words: *mut u64,
+            room: usize,
+        ) -> u8;
+        fn probe_read_at_most(s: *const u8, len: usize, at: usize, limit: u64, over: usize, words: *mut u64, room: usize) -> u8;
+        fn probe_read_bytes(s: *const u8, len: usize, at: usize, count: usize, words: *mut u64, room: usize) -> u8;
+        fn probe_name_ok(s: *const u8, len: usize) -> u8;
+        fn probe_read_name(s: *const u8, len: usize, at: usize, words: *mut u64, room: usize) -> u8;
+        fn probe_read_origin(s: *const u8, len: usize, at: usize, words: *mut u64, room: usize) -> u8;
+        fn probe_factor(multiplier: u32, in_progress: u64) -> u32;
+        fn probe_product(delay: u64, factor: u32) -> u64;
+        fn probe_attempt_delay(delay: u64, multiplier: u32, in_progress: u64) -> u64;
+        fn probe_first_id() -> u64;
+        fn probe_next_id(id: u64, words: *mut u64, room: usize);
     }
 
     // Safety of all calls: a pointer goes with the length of the live slice that it came from, and no entry keeps it.
 
-    pub fn read_number(s: &[u8], at: usize) -> Answer<u64> {
-        unsafe {
-            Answer {
-                refusal: leaf_number_refusal(s.as_ptr(), s.len(), at),
-                found: leaf_number_value(s.as_ptr(), s.len(), at),
-                next: leaf_number_next(s.as_ptr(), s.len(), at),
-            }
-        }
+    /// What an entry says that is lent words.
+    fn answer(entry: impl FnOnce(*mut u64, usize) -> u8) -> Answer {
+        let mut words = [UNTOUCHED; WORDS];
+        let number = entry(words.as_mut_ptr(), words.len());
+        Answer { number, words }
     }
 
-    pub fn read_name(s: &[u8], at: usize, limit: u64) -> Answer<usize> {
-        unsafe {
-            Answer {
-                refusal: leaf_name_refusal(s.as_ptr(), s.len(), at, limit),
-                found: leaf_name_start(s.as_ptr(), s.len(), at, limit),
-                next: leaf_name_next(s.as_ptr(), s.len(), at, limit),
-            }
-        }
+    pub fn read_number(s: &[u8], at: usize) -> Answer {
+        answer(|words, room| unsafe { probe_read_number(s.as_ptr(), s.len(), at, words, room) })
+    }
+
+    pub fn read_name(s: &[u8], at: usize) -> Answer {
+        answer(|words, room| unsafe { probe_read_name(s.as_ptr(), s.len(), at, words, room) })
+    }
+
+    pub fn read_origin(s: &[u8], at: usize) -> Answer {
+        answer(|words, room| unsafe { probe_read_origin(s.as_ptr(), s.len(), at, words, room) })
     }
 
     pub fn number_len(n: u64) -> usize {
-        unsafe { leaf_number_len(n) }
+        unsafe { probe_number_len(n) }
     }
 
-    pub fn write_number(mut buffer: Buffer, at: usize, n: u64) -> (u8, Buffer) {
+    pub fn write_number(mut buffer: Buffer, at: usize, n: u64) -> (Answer, Buffer) {
         let out = buffer.lent();
-        let refusal = unsafe { leaf_write_number(out.as_mut_ptr(), out.len(), at, n) };
-        (refusal, buffer)
+        let said = answer(|words, room| unsafe { probe_write_number(out.as_mut_ptr(), out.len(), at, n, words, room) });
+        (said, buffer)
     }
 
-    pub fn put_bytes(mut buffer: Buffer, at: usize, bytes: &[u8]) -> (u8, Buffer) {
+    pub fn put_bytes(mut buffer: Buffer, at: usize, bytes: &[u8]) -> (Answer, Buffer) {
         let out = buffer.lent();
-        let refusal = unsafe { leaf_put_bytes(out.as_mut_ptr(), out.len(), at, bytes.as_ptr(), bytes.len()) };
-        (refusal, buffer)
+        let said = answer(|words, room| unsafe {
+            probe_put_bytes(out.as_mut_ptr(), out.len(), at, bytes.as_ptr(), bytes.len(), words, room)
+        });
+        (said, buffer)
     }
 
     pub fn name_ok(s: &[u8]) -> u8 {
-        unsafe { leaf_name_ok(s.as_ptr(), s.len()) }
+        unsafe { probe_name_ok(s.as_ptr(), s.len()) }
     }
 
-    pub fn at_most_refusal(s: &[u8], at: usize, limit: u64, many: bool) -> u8 {
-        unsafe { leaf_at_most_refusal(s.as_ptr(), s.len(), at, limit, many) }
+    /// A number above the limit gets the refusal with the number `over`.
+    pub fn read_at_most(s: &[u8], at: usize, limit: u64, over: u8) -> Answer {
+        let place = usize::from(over - 1);
+        answer(|words, room| unsafe { probe_read_at_most(s.as_ptr(), s.len(), at, limit, place, words, room) })
     }
 
-    pub fn bytes_refusal(s: &[u8], at: usize, count: usize) -> u8 {
-        unsafe { leaf_bytes_refusal(s.as_ptr(), s.len(), at, count) }
+    pub fn read_bytes(s: &[u8], at: usize, count: usize) -> Answer {
+        answer(|words, room| unsafe { probe_read_bytes(s.as_ptr(), s.len(), at, count, words, room) })
     }
 
     pub fn factor(multiplier: u32, in_progress: u64) -> u32 {
-        unsafe { leaf_factor(multiplier, in_progress) }
+        unsafe { probe_factor(multiplier, in_progress) }
     }
 
     pub fn product(delay: u64, factor: u32) -> u64 {
-        unsafe { leaf_product(delay, factor) }
+        unsafe { probe_product(delay, factor) }
     }
 
     pub fn attempt_delay(delay: u64, multiplier: u32, in_progress: u64) -> u64 {
-        unsafe { leaf_attempt_delay(delay, multiplier, in_progress) }
+        unsafe { probe_attempt_delay(delay, multiplier, in_progress) }
     }
 
-    pub fn next_id(id: u64) -> u64 {
-        unsafe { leaf_next_id(id) }
+    pub fn first_id() -> u64 {
+        unsafe { probe_first_id() }
+    }
+
+    pub fn next_id(id: u64) -> Answer {
+        answer(|words, room| {
+            unsafe { probe_next_id(id, words, room) };
+            0
+        })
     }
 }
 
 /// The Rust side, written from document 01's sentences and by other ways than the Rattle code: values in 128 bits, a form held
 /// against its own encoding, names by splitting, powers by squaring.
 mod rust {
-    use super::Buffer;
+    use super::{Buffer, Span};
 
     pub const CUT: u8 = 1;
     pub const BAD_NUMBER: u8 = 2;
@@ -187,28 +238,29 @@ mod rust {
         at as u128 + u128::from(count) <= len as u128
     }
 
-    pub fn at_most_refusal(s: &[u8], at: usize, limit: u64, over: u8) -> u8 {
+    pub fn read_at_most(s: &[u8], at: usize, limit: u64, over: u8) -> Result<(u64, usize), u8> {
         match read_number(s, at) {
-            Err(refusal) => refusal,
-            Ok((v, _)) if v > limit => over,
-            Ok(_) => 0,
+            Ok((v, _)) if v > limit => Err(over),
+            read => read,
         }
     }
 
-    pub fn bytes_refusal(s: &[u8], at: usize, count: usize) -> u8 {
+    pub fn read_bytes(s: &[u8], at: usize, count: usize) -> Result<Span, u8> {
         if within(at, count as u64, s.len()) {
-            0
+            Ok([at, count, at + count].map(|n| n as u64))
         } else {
-            CUT
+            Err(CUT)
         }
     }
 
-    pub fn put_bytes(mut buffer: Buffer, at: usize, bytes: &[u8]) -> (u8, Buffer) {
+    /// The place after the bytes, and the buffer with them.
+    pub fn put_bytes(mut buffer: Buffer, at: usize, bytes: &[u8]) -> (Result<usize, u8>, Buffer) {
         if !within(at, bytes.len() as u64, buffer.len) {
-            return (NO_ROOM, buffer);
+            return (Err(NO_ROOM), buffer);
         }
-        buffer.lent()[at..at + bytes.len()].copy_from_slice(bytes);
-        (0, buffer)
+        let next = at + bytes.len();
+        buffer.lent()[at..next].copy_from_slice(bytes);
+        (Ok(next), buffer)
     }
 
     pub fn name_ok(s: &[u8]) -> bool {
@@ -220,20 +272,14 @@ mod rust {
             && !labels.last().is_some_and(|label| numeric(label))
     }
 
-    pub fn read_name(s: &[u8], at: usize, limit: u64) -> Result<(usize, usize), u8> {
-        let (len, start) = read_number(s, at)?;
-        if len > limit {
-            return Err(TOO_MANY);
-        }
+    pub fn read_name(s: &[u8], at: usize, limit: u64) -> Result<Span, u8> {
+        let (len, start) = read_at_most(s, at, limit, TOO_MANY)?;
         if len == 0 {
             return Err(BAD_NAME);
         }
-        if !within(start, len, s.len()) {
-            return Err(CUT);
-        }
-        let next = start + len as usize;
-        if name_ok(&s[start..next]) {
-            Ok((start, next))
+        let span = read_bytes(s, start, len as usize)?;
+        if name_ok(&s[start..][..len as usize]) {
+            Ok(span)
         } else {
             Err(BAD_NAME)
         }
@@ -269,26 +315,7 @@ mod rust {
     }
 }
 
-/// SplitMix64: every seed serves.
-struct Random(u64);
-
 impl Random {
-    fn next(&mut self) -> u64 {
-        self.0 = self.0.wrapping_add(0x9e37_79b9_7f4a_7c15);
-        let z = (self.0 ^ (self.0 >> 30)).wrapping_mul(0xbf58_476d_1ce4_e5b9);
-        let z = (z ^ (z >> 27)).wrapping_mul(0x94d0_49bb_1331_11eb);
-        z ^ (z >> 31)
-    }
-
-    fn below(&mut self, n: usize) -> usize {
-        (self.next() % n as u64) as usize
-    }
-
-    /// One time in n.
-    fn once_in(&mut self, n: usize) -> bool {
-        self.below(n) == 0
-    }
-
     /// Numbers of every bit length alike.
     fn number(&mut self) -> u64 {
         self.next() >> self.below(64)
@@ -317,44 +344,6 @@ impl Random {
     }
 }
 
-/// The comparisons of one kind, counted by what came of them.
-struct Tally {
-    kind: &'static str,
-    /// The outcomes by number; one without a name can't come.
-    outcomes: &'static [&'static str],
-    met: Vec<u64>,
-}
-
-impl Tally {
-    fn new(kind: &'static str, outcomes: &'static [&'static str]) -> Self {
-        Tally { kind, outcomes, met: vec![0; outcomes.len()] }
-    }
-
-    fn compare<A: Debug + PartialEq>(&mut self, input: Arguments, rattle: A, rust: A, outcome: usize) {
-        if rattle != rust {
-            println!("leaves: {}: the answers differ (numbers in base 16)", self.kind);
-            println!("  input:  {input}\n  Rattle: {rattle:x?}\n  Rust:   {rust:x?}");
-            exit(1);
-        }
-        self.met[outcome] += 1;
-    }
-
-    fn total(&self) -> u64 {
-        self.met.iter().sum()
-    }
-
-    /// Prints the counts. An outcome that never came ends the program: the comparison would have been empty there.
-    fn report(&self) {
-        let named = || self.outcomes.iter().zip(&self.met).filter(|(name, _)| !name.is_empty());
-        let parts: Vec<String> = named().map(|(name, n)| format!("{name} {n}")).collect();
-        println!("{:16} {:8}: {}", self.kind, self.total(), parts.join(", "));
-        if let Some((name, _)) = named().find(|(_, n)| **n == 0) {
-            println!("leaves: {} never came to {name}", self.kind);
-            exit(1);
-        }
-    }
-}
-
 /// All powers of 2, so all of 2^7, and the numbers beside them.
 fn boundaries() -> Vec<u64> {
     let mut all: Vec<u64> = (0..64).map(|k| 1 << k).flat_map(|p: u64| [p - 1, p, p + 1]).collect();
@@ -370,9 +359,14 @@ fn places(len: usize) -> impl Iterator<Item = usize> {
     (0..=len + 2).chain(far).chain(usize::MAX - SHORT - 2..=usize::MAX)
 }
 
+/// A number that was read, or its refusal, as an entry says it.
+fn number_said(read: Result<(u64, usize), u8>) -> Answer {
+    Answer::new(read.map(|(v, next)| [v, next as u64]))
+}
+
 fn compare_read(t: &mut Tally, s: &[u8], at: usize) {
-    let rust = Answer::from(rust::read_number(s, at));
-    let outcome = rust.refusal as usize;
+    let rust = number_said(rust::read_number(s, at));
+    let outcome = rust.number as usize;
     t.compare(format_args!("bytes {s:02x?} at {at:x}"), rattle::read_number(s, at), rust, outcome);
 }
 
@@ -469,9 +463,15 @@ fn number_lengths(random: &mut Random) -> Tally {
     t
 }
 
+/// The place after what was written, or the refusal.
+fn place_said(next: Result<usize, u8>) -> Answer {
+    Answer::new(next.map(|next| [next as u64]))
+}
+
 fn compare_write(t: &mut Tally, buffer: Buffer, at: usize, n: u64) {
-    let rust = rust::put_bytes(buffer, at, &rust::encoded(n.into()));
-    let outcome = usize::from(rust.0 != 0);
+    let (next, after) = rust::put_bytes(buffer, at, &rust::encoded(n.into()));
+    let outcome = usize::from(next.is_err());
+    let rust = (place_said(next), after);
     t.compare(format_args!("{n:x} at {at:x} of {buffer:x?}"), rattle::write_number(buffer, at, n), rust, outcome);
 }
 
@@ -497,8 +497,9 @@ fn bytes_put(random: &mut Random) -> Tally {
     let mut compare = |len: usize, at: usize, count: usize| {
         let buffer = random.buffer(len);
         let bytes: Vec<u8> = (0..count).map(|_| random.byte()).collect();
-        let rust = rust::put_bytes(buffer, at, &bytes);
-        let outcome = usize::from(rust.0 != 0);
+        let (next, after) = rust::put_bytes(buffer, at, &bytes);
+        let outcome = usize::from(next.is_err());
+        let rust = (place_said(next), after);
         let input = format_args!("{bytes:02x?} at {at:x} of {buffer:x?}");
         t.compare(input, rattle::put_bytes(buffer, at, &bytes), rust, outcome);
     };
@@ -516,30 +517,33 @@ fn bytes_put(random: &mut Random) -> Tally {
     t
 }
 
-fn compare_at_most(t: &mut Tally, s: &[u8], at: usize, limit: u64) {
-    for (many, over) in [(false, rust::OUT_OF_RANGE), (true, rust::TOO_MANY)] {
-        let rust = rust::at_most_refusal(s, at, limit, over);
-        let input = format_args!("bytes {s:02x?} at {at:x}, limit {limit:x}, many {many}");
-        t.compare(input, rattle::at_most_refusal(s, at, limit, many), rust, rust as usize);
-    }
+fn compare_at_most(t: &mut Tally, s: &[u8], at: usize, limit: u64, over: u8) {
+    let rust = number_said(rust::read_at_most(s, at, limit, over));
+    let outcome = rust.number as usize;
+    let input = format_args!("bytes {s:02x?} at {at:x}, limit {limit:x}, over {over:x}");
+    t.compare(input, rattle::read_at_most(s, at, limit, over), rust, outcome);
 }
 
-/// Every two boundaries as number and limit; then random forms against random limits.
+/// Every two boundaries as number and limit; then random forms against random limits. A number above its limit is refused as the table's
+/// order says, with each of the thirteen.
 fn numbers_at_most(random: &mut Random) -> Tally {
-    let mut t = Tally::new("numbers at most", &["read", "Cut", "BadNumber", "OutOfRange", "", "TooMany"]);
+    let mut t = Tally::new("numbers at most", &REFUSALS);
     for n in boundaries() {
         let mut s = rust::encoded(n.into());
         s.push(0);
         for limit in boundaries().into_iter().chain([239, 253, 4096, n]) {
-            compare_at_most(&mut t, &s, 0, limit);
+            for over in [rust::OUT_OF_RANGE, rust::TOO_MANY] {
+                compare_at_most(&mut t, &s, 0, limit, over);
+            }
         }
         for at in places(s.len()) {
-            compare_at_most(&mut t, &s, at, n);
+            (1..=13).for_each(|over| compare_at_most(&mut t, &s, at, n, over));
         }
     }
-    for _ in 0..300_000 {
+    for _ in 0..1_000_000 {
         let s: Vec<u8> = (0..random.below(SHORT + 1)).map(|_| random.group()).collect();
-        compare_at_most(&mut t, &s, random.below(s.len() + 2), random.number());
+        let over = 1 + random.below(13) as u8;
+        compare_at_most(&mut t, &s, random.below(s.len() + 2), random.number(), over);
     }
     t
 }
@@ -548,9 +552,10 @@ fn raw_bytes(random: &mut Random) -> Tally {
     let mut t = Tally::new("raw bytes", &["read", "Cut"]);
     let memory: Vec<u8> = (0..5_000).map(|_| random.byte()).collect();
     let mut compare = |len: usize, at: usize, count: usize| {
-        let rust = rust::bytes_refusal(&memory[..len], at, count);
+        let rust = Answer::new(rust::read_bytes(&memory[..len], at, count));
+        let outcome = rust.number as usize;
         let input = format_args!("{count:x} bytes at {at:x} of {len:x}");
-        t.compare(input, rattle::bytes_refusal(&memory[..len], at, count), rust, rust as usize);
+        t.compare(input, rattle::read_bytes(&memory[..len], at, count), rust, outcome);
     };
     for len in 0..=SHORT {
         for at in places(len) {
@@ -662,11 +667,10 @@ fn name_rule(random: &mut Random) -> Tally {
 }
 
 fn compare_name_read(t: &mut Tally, s: &[u8], at: usize) {
-    for limit in [253, 239, 0, 1, 1 << 63, u64::MAX] {
-        let rust = Answer::from(rust::read_name(s, at, limit));
-        let outcome = rust.refusal as usize;
-        let input = format_args!("bytes {s:02x?} at {at:x}, limit {limit:x}");
-        t.compare(input, rattle::read_name(s, at, limit), rust, outcome);
+    for (whose, limit, rattle) in [("any", 253, rattle::read_name(s, at)), ("the origin's", 239, rattle::read_origin(s, at))] {
+        let rust = Answer::new(rust::read_name(s, at, limit));
+        let outcome = rust.number as usize;
+        t.compare(format_args!("bytes {s:02x?} at {at:x}, {whose}"), rattle, rust, outcome);
     }
 }
 
@@ -697,7 +701,7 @@ fn names_read(random: &mut Random) -> Tally {
     for at in places(3) {
         compare_name_read(&mut t, b"\x02ab", at);
     }
-    for _ in 0..200_000 {
+    for _ in 0..500_000 {
         let name = random_name(random);
         // a length that is one off, or a longer form of it, at times
         let len = (name.len() + random.pick(&[1, 1, 1, 1, 0, 2])).saturating_sub(1);
@@ -781,19 +785,19 @@ fn delays(random: &mut Random) -> Tally {
 }
 
 fn ids(random: &mut Random) -> Tally {
-    let mut t = Tally::new("ids", &["0 again", "next"]);
+    let mut t = Tally::new("ids", &["first", "0 again", "next"]);
+    t.compare(format_args!("the first"), rattle::first_id(), 0, 0);
     let some: Vec<u64> = (0..1_000_000).map(|_| random.number()).collect();
     for id in boundaries().into_iter().chain(some) {
-        let rust = rust::next_id(id);
-        t.compare(format_args!("after {id:x}"), rattle::next_id(id), rust, usize::from(rust != 0));
+        let next = rust::next_id(id);
+        let rust = Answer::new(Ok([id, next]));
+        t.compare(format_args!("{id:x} is next"), rattle::next_id(id), rust, 1 + usize::from(next != 0));
     }
     t
 }
 
-fn compare_all(seed: u64) {
-    let random = &mut Random(seed);
-    println!("seed {seed}");
-    let kinds = [
+fn compare_all(random: &mut Random) {
+    let kinds: [tally::Kind; 12] = [
         numbers_read,
         number_lengths,
         numbers_written,
@@ -807,13 +811,7 @@ fn compare_all(seed: u64) {
         delays,
         ids,
     ];
-    let mut total = 0;
-    for kind in kinds {
-        let tally = kind(random);
-        tally.report();
-        total += tally.total();
-    }
-    println!("leaves: {total} comparisons, none differ");
+    tally::run("leaves", &kinds, random);
 }
 
 type Call = (u64, u32, u64);
@@ -861,15 +859,5 @@ fn speed(random: &mut Random) {
 }
 
 fn main() {
-    const SEED: u64 = 2_026;
-    let arguments: Vec<String> = std::env::args().skip(1).collect();
-    match arguments.iter().map(String::as_str).collect::<Vec<_>>()[..] {
-        [] => compare_all(SEED),
-        ["--speed"] => speed(&mut Random(SEED)),
-        [seed] if seed.parse::<u64>().is_ok() => compare_all(seed.parse().unwrap()),
-        _ => {
-            eprintln!("usage: leaves [SEED | --speed]");
-            exit(2);
-        }
-    }
+    run::run(compare_all, speed);
 }

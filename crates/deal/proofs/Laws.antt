@@ -50,7 +50,7 @@ module _ {A : Type 0} where
       let w = mem-joined 8 (λ g. nth (v .0) (queue f xs g)) (v .2) in
       mem-keep (λ x. eqb (f x) (w .0)) xs (mem-nth (v .0) (queue f xs (w .0)) (w .2)) .0
 
-  -- Any two lists with equal groups in equal inner order interleave alike.
+  -- lists whose groups have the same members in the same order are dealt alike
   pub alike : (f : A → ℕ) (xs ys : List A) → ((g : ℕ) → g < 8 → queue f xs g ≡ queue f ys g) → interleave f xs ≡ interleave f ys
   unfolding interleave
   alike f xs ys e = sym more-x ∙ (joined-ext (length ys + length xs) (round f xs) (round f ys) same ∙ (rw add-comm more-y))

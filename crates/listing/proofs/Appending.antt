@@ -1,59 +1,59 @@
--- A tier's endpoints at the end of a listing, one after the other in the given order, and what that comes to for an order that was dealt.
-use Prim.Native.Nat.{ℕ, _+_, _≤_, _<_}
-use mathlib.Core.Path.{_≡_, sym, ap, _∙_}
+-- Filling a room with references one after the other, and what that comes to for an order that was dealt.
+use Prim.Native.Nat.{ℕ, _+_, _-_, _≤_, _<_}
+use mathlib.Core.Path.{_≡_, refl, sym, ap, _∙_}
 use mathlib.Core.Bool.{Bool, true, false}
 use mathlib.Core.List.{List, [], _∷_, _++_, map, append-assoc, map-append}
 use native.Mathlib.Numerals.{add-one}
 use native.Mathlib.Omega.{arith}
-use lib.ListN.{length, take, getD, set, length-append, length-map}
+use lib.ListN.{length, take, getD, set, length-append, length-map, replicate}
 use lib.Seq.{take-suc, length-take-le, getD-take}
 use Rattle.deal.specs.Interleaving.{interleave, order, Grouped}
 use Rattle.deal.proofs.Laws.{by-order, order-below, length-order, group-below}
 use Rattle.deal.proofs.Answers.{grouped-map, grouped-all}
+use Rattle.records.specs.Lists.{padded}
 use Rattle.records.specs.Numbers.{rankNumber}
-use Rattle.records.specs.declared.Rank.{Rank}
-use Rattle.records.specs.declared.Rank.the-variants as rank
-use Rattle.records.specs.declared.Source.{Source}
-use Rattle.records.specs.declared.Source.the-variants.{Held6, Held4, Hint6, Hint4, Literal6, Literal4, Name}
+use Rattle.records.specs.References.{noItem}
+use Rattle.records.specs.declared.endpoints.Rank.{Rank}
+use Rattle.records.specs.declared.endpoints.Rank.the-variants as rank
+use Rattle.records.specs.declared.references.Source.{Source}
+use Rattle.records.specs.declared.references.Source.the-variants.{Held6, Held4, Hint6, Hint4, Literal6, Literal4, Name}
+use Rattle.records.specs.declared.references.Item.{Item}
+use Rattle.records.proofs.Rooms.{padded-set, padded-take, map-same, padded-at}
+use Rattle.listing.specs.declared.runs.Undealt.{Undealt}
+use Rattle.listing.specs.declared.runs.DealtOrder.{DealtOrder}
 use Rattle.listing.specs.declared.Tier.{Tier}
-use Rattle.listing.specs.declared.Places.{Places}
-use Rattle.records.specs.declared.Item.{Item}
-use Rattle.listing.specs.declared.Listing.{Listing}
-use Rattle.listing.specs.Items.{noItem, familyOf, groupOf}
-use Rattle.listing.specs.Room.{padded, listed, heldItems, tiered, Appends}
-use Rattle.listing.proofs.Rooms.{padded-set, padded-take, map-same, padded-at}
+use Rattle.listing.specs.Items.{familyOf, groupOf}
+use Rattle.listing.specs.Room.{grouped, tiered, tierMembers}
 
-module _ (l : Listing) (e : l ≡ listed (heldItems l)) where
-  pub held-count : l .count ≡ length (heldItems l)
-  unfolding listed
-  held-count = ap (λ x. x .count) e
+-- what a tier has is what was put into it
+pub members-tiered : (xs : List Item) (t : Tier) → t ≡ tiered xs → tierMembers t ≡ xs
+unfolding tiered
+members-tiered xs t e = ap tierMembers e ∙ padded-take noItem 80 xs
 
-  pub held-list : l .list ≡ padded 272 noItem (heldItems l)
-  unfolding listed
-  held-list = ap (λ x. x .list) e
+pub count-tiered : (xs : List Item) (t : Tier) → t ≡ tiered xs → t .count ≡ length xs
+unfolding tiered
+count-tiered xs t e = ap (λ x. x .count) e
 
--- what a listing holds is what was put into it
-pub held-listed : (xs : List Item) → heldItems (listed xs) ≡ xs
-unfolding listed
-held-listed xs = padded-take noItem 272 xs
+pub long-tiered : (xs : List Item) (t : Tier) → t ≡ tiered xs → length xs ≤ length (t .list)
+unfolding tiered padded
+long-tiered xs t e = let f : length (t .list) ≡ length xs + length (replicate (80 - length xs) noItem) = ap (λ x. length (x .list)) e ∙ length-append xs (replicate (80 - length xs) noItem) in omega arith
 
-pub listed-again : (xs : List Item) (l : Listing) → l ≡ listed xs → l ≡ listed (heldItems l)
-listed-again xs l e = e ∙ ap listed (sym (ap heldItems e ∙ held-listed xs))
+pub map-id : {A : Type 0} (xs : List A) → map (λ x. x) xs ≡ xs
+map-id [] = refl
+map-id (x ∷ xs) = ap (λ l. x ∷ l) (map-id xs)
 
-module _ (ys : List Item) (f : ℕ → Item) (ord : List ℕ) (base k : ℕ) (out : List Item) (p : out ≡ padded 272 noItem (ys ++ map f (take k ord))) (b : base ≡ length ys) where
-  so-far : k ≤ length ord → length (ys ++ map f (take k ord)) ≡ base + k
-  so-far h = rw (length-append, length-map, length-take-le k ord h) (omega arith)
+-- one more behind ys and the first k of ord, as f reads them
+module _ {B : Type 0} (room : ℕ) (d : B) (ys : List Item) (f : B → Item) (ord : List B) (k at : ℕ) (out : List Item) (p : out ≡ padded room noItem (ys ++ map f (take k ord))) (b : at ≡ length ys + k) where
+  pub filled : k ≤ length ord → at ≡ length (ys ++ map f (take k ord))
+  filled h = rw (length-append, length-map, length-take-le k ord h) b
 
-  pub append-more : k < length ord → base + k < 272 → set out (base + k) (f (getD ord k 0)) ≡ padded 272 noItem (ys ++ map f (take (k + 1) ord))
-  append-more h r =
-      ap (λ x. set x (base + k) (f (getD ord k 0))) p
-      ∙ ap (λ n. set (padded 272 noItem (ys ++ map f (take k ord))) n (f (getD ord k 0))) (sym (so-far (omega arith)))
-      ∙ padded-set noItem 272 (ys ++ map f (take k ord)) (f (getD ord k 0)) (omega (arith, so-far (omega arith)))
-      ∙ ap (padded 272 noItem) (append-assoc ys (map f (take k ord)) (f (getD ord k 0) ∷ []) ∙ ap (λ x. ys ++ x) (sym (map-append f (take k ord) (getD ord k 0 ∷ [])) ∙ ap (map f) (sym (take-suc ord k 0 h) ∙ ap (λ n. take n ord) (sym (add-one k)))))
-
-  pub append-end : k ≤ length ord → record { count = base + k; list = out } ≡ listed (ys ++ map f (take k ord))
-  unfolding listed
-  append-end h = λ j. record { count = sym (so-far h) j; list = p j }
+  pub fill-more : k < length ord → at < room → set out at (f (getD ord k d)) ≡ padded room noItem (ys ++ map f (take (k + 1) ord))
+  fill-more h r =
+      let e : at ≡ length (ys ++ map f (take k ord)) = filled (omega arith) in
+      ap (λ x. set x at (f (getD ord k d))) p
+      ∙ ap (λ n. set (padded room noItem (ys ++ map f (take k ord))) n (f (getD ord k d))) e
+      ∙ padded-set noItem room (ys ++ map f (take k ord)) (f (getD ord k d)) (omega arith)
+      ∙ ap (padded room noItem) (append-assoc ys (map f (take k ord)) (f (getD ord k d) ∷ []) ∙ ap (λ x. ys ++ x) (sym (map-append f (take k ord) (getD ord k d ∷ [])) ∙ ap (map f) (sym (take-suc ord k d h) ∙ ap (λ n. take n ord) (sym (add-one k)))))
 
 -- every group is one of the eight
 pub rank-below : (k : Rank) → rankNumber k < 4
@@ -99,17 +99,17 @@ module _ (prefer6 : Bool) (xs list : List Item) (groups ord : List ℕ) (n : ℕ
       ∙ sym (by-order (groupOf prefer6) xs noItem)
 
 -- the same of a tier in its room
-module _ (prefer6 : Bool) (xs : List Item) (t : Tier) (e : t ≡ tiered prefer6 xs) where
+module _ (prefer6 : Bool) (xs : List Item) (t : Undealt) (e : t ≡ grouped prefer6 xs) where
   pub tier-count : t .count ≡ length xs
-  unfolding tiered
+  unfolding grouped
   tier-count = ap (λ x. x .count) e
 
   tier-list : t .list ≡ padded 80 noItem xs
-  unfolding tiered
+  unfolding grouped
   tier-list = ap (λ x. x .list) e
 
   tier-groups : t .groups ≡ padded 80 0 (map (groupOf prefer6) xs)
-  unfolding tiered
+  unfolding grouped
   tier-groups = ap (λ x. x .groups) e
 
   first-groups : take (t .count) (t .groups) ≡ map (groupOf prefer6) xs
@@ -118,15 +118,9 @@ module _ (prefer6 : Bool) (xs : List Item) (t : Tier) (e : t ≡ tiered prefer6 
   pub tier-grouped : Grouped (take (t .count) (t .groups))
   tier-grouped = rw (first-groups) (all-grouped prefer6 xs)
 
-  module _ (l : Listing) (o : Places) (d : take (t .count) (o .list) ≡ order (take (t .count) (t .groups))) where
-    pub may-append : l ≡ listed (heldItems l) → length xs ≤ 80 → l .count + length xs ≤ 272 → Appends l t o
-    may-append h few room =
-        record {
-          held = h;
-          small = omega (arith, tier-count);
-          fits = omega (arith, tier-count);
-          within = λ k (q : k < t .count). omega (arith, below k q, tier-count);
-        }
+  module _ (o : DealtOrder) (d : take (t .count) (o .list) ≡ order (take (t .count) (t .groups))) where
+    pub may-gather : length xs ≤ 80 → (t .count ≤ 80) × ((k : ℕ) → k < t .count → getD (o .list) k 0 < 80)
+    may-gather few = (omega (arith, tier-count), λ k q. omega (arith, below k q, tier-count))
       where
         gs : length (take (t .count) (t .groups)) ≡ t .count
         gs = ap length first-groups ∙ length-map xs (groupOf prefer6) ∙ sym tier-count
@@ -138,5 +132,5 @@ module _ (prefer6 : Bool) (xs : List Item) (t : Tier) (e : t ≡ tiered prefer6 
             let v : getD (o .list) k 0 ≡ getD (order (take (t .count) (t .groups))) k 0 = sym (getD-take (t .count) (o .list) k 0 q) ∙ ap (λ y. getD y k 0) d in
             omega (arith, gs)
 
-    pub appends-dealt : listed (heldItems l ++ map (λ i. getD (t .list) i noItem) (take (t .count) (o .list))) ≡ listed (heldItems l ++ interleave (groupOf prefer6) xs)
-    appends-dealt = ap (λ y. listed (heldItems l ++ y)) (dealt-is prefer6 xs (t .list) (t .groups) (o .list) (t .count) tier-count tier-list tier-groups d)
+    pub gathers-dealt : tiered (map (λ i. getD (t .list) i noItem) (take (t .count) (o .list))) ≡ tiered (interleave (groupOf prefer6) xs)
+    gathers-dealt = ap tiered (dealt-is prefer6 xs (t .list) (t .groups) (o .list) (t .count) tier-count tier-list tier-groups d)

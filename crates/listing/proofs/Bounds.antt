@@ -5,72 +5,74 @@ use mathlib.Core.Bool.{Bool, true, false, cond}
 use mathlib.Core.List.{List, [], _∷_, _++_}
 use native.Mathlib.Omega.{arith}
 use lib.ListN.{length, take, length-append, length-take}
-use Rattle.records.specs.declared.Rules.{Rules}
-use Rattle.records.specs.declared.Alt.{Alt}
-use Rattle.records.specs.declared.Alts.{Alts}
-use Rattle.records.specs.declared.Query.{Query}
-use Rattle.records.specs.declared.Queries.{Queries}
-use Rattle.records.specs.declared.Names.{Names}
-use Rattle.records.specs.declared.Service.{Service}
-use Rattle.records.specs.declared.Answer.{Answer}
-use Rattle.records.specs.declared.Answer.the-variants.{Pending, Failed, Held}
-use Rattle.records.specs.declared.Kind.{Kind}
-use Rattle.records.specs.declared.Kind.the-variants.{Aaaa, A}
-use Rattle.records.specs.declared.Host.{Host}
-use Rattle.records.specs.declared.Host.the-variants as host
-use Rattle.records.specs.declared.Rank.{Rank}
-use Rattle.records.specs.declared.Rank.the-variants as rank
-use Rattle.records.specs.declared.EchPlace.{EchPlace}
-use Rattle.records.specs.declared.EchPlace.the-variants.{Without}
-use Rattle.listing.specs.declared.Pair.{Pair}
-use Rattle.listing.specs.declared.Run.{Run}
-use Rattle.listing.specs.Lists.{each}
+use Rattle.records.specs.declared.rules.Rules.{Rules}
+use Rattle.records.specs.declared.rules.Alt.{Alt}
+use Rattle.records.specs.declared.rules.Alts.{Alts}
+use Rattle.records.specs.declared.queries.Query.{Query}
+use Rattle.records.specs.declared.queries.Queries.{Queries}
+use Rattle.listing.specs.Held.{Same, heldCount, firstHeld, heldAt, heldTargets}
+use Rattle.records.specs.Lists.{each}
 use Rattle.listing.specs.Items.{run}
-use Rattle.listing.specs.Held.{holding, firstHeld, heldAt, heldParts}
-use Rattle.listing.specs.Listing.{quic, combined, fromHttpVersions, enabled, isEnabled, rankOf, portOr, echIf, byName, allowsSix, allowsFour, serviceByName, lot, serviceHeld, serviceHints, serviceRuns, originAt, originParts, originRuns, altAt, altRuns, altsFrom, lastRuns, tierItems}
+use Rattle.listing.specs.Listing.{quic, combined, fromHttpVersions, enabled, isEnabled, rankOf, portOr, echIf, serviceByName, hostRuns, serviceHeld, serviceHints, serviceRuns, originOf, ownTargets, originTargets, originRuns, altTargets, altRuns, altsFrom, lastRuns, tierItems}
+use Rattle.records.specs.Rules.{byName, allowsSix, allowsFour}
+use Rattle.records.specs.declared.services.Service.{Service}
+use Rattle.records.specs.declared.queries.Answer.{Answer}
+use Rattle.records.specs.declared.queries.Answer.the-variants.{Pending, Failed, Held}
+use Rattle.records.specs.declared.queries.Kind.{Kind}
+use Rattle.records.specs.declared.queries.Kind.the-variants.{Aaaa, A}
+use Rattle.records.specs.declared.rules.AltHost.{AltHost}
+use Rattle.records.specs.declared.rules.AltHost.the-variants as alt
+use Rattle.records.specs.declared.rules.Host.{Host}
+use Rattle.records.specs.declared.rules.Host.the-variants as host
+use Rattle.records.specs.declared.endpoints.Rank.{Rank}
+use Rattle.records.specs.declared.endpoints.Rank.the-variants as rank
+use Rattle.records.specs.declared.names.EchPlace.{EchPlace}
+use Rattle.records.specs.declared.names.EchPlace.the-variants.{Without}
+use Rattle.listing.specs.declared.hosts.HostTargets.{HostTargets}
+use Rattle.listing.specs.declared.runs.Run.{Run}
 use Rattle.listing.proofs.Tiers.{items-append, run-length, head-length}
 
 -- how many endpoints a pair of parts has
-abbrev size : Pair → ℕ
+abbrev size : HostTargets → ℕ
 size x = x .first .count + x .second .count
 
 none-left : length (tierItems []) ≡ 0
 unfolding tierItems each
 none-left = refl
 
-lot-size : (x : Pair) (port : ℕ) (ech : EchPlace) (k : Rank) → length (tierItems (lot x port ech k)) ≡ size x
-lot-size x port ech k =
+runs-size : (x : HostTargets) (port : ℕ) (ech : EchPlace) (k : Rank) → length (tierItems (hostRuns x port ech k)) ≡ size x
+runs-size x port ech k =
     let a = run (x .first) port k ech in
     let b = run (x .second) port k ech in
     omega (arith, head-length a (b ∷ []), head-length b [], run-length a, run-length b, none-left)
 
-holding-le : (n : ℕ) (a : Answer) → holding n a ≤ 8
-holding-le n Pending = omega arith
-holding-le n (Failed t) = omega arith
-holding-le n (Held t) = omega arith
+count-le : (a : Answer) → heldCount a ≤ 8
+count-le Pending = omega arith
+count-le (Failed t) = omega arith
+count-le (Held t n) = omega arith
 
 held-le : (test : Query → Bool) (i : ℕ) (l : List Query) → firstHeld test i l .count ≤ 8
 unfolding firstHeld
 held-le test i [] = omega arith
 held-le test i (q ∷ l) = either (test q) (held-le test (i + 1) l)
   where
-    either : (b : Bool) → firstHeld test (i + 1) l .count ≤ 8 → cond b (record { query = i; count = holding (q .count) (q .answer) }) (firstHeld test (i + 1) l) .count ≤ 8
-    either true h = holding-le (q .count) (q .answer)
+    either : (b : Bool) → firstHeld test (i + 1) l .count ≤ 8 → cond b (record { query = i; count = heldCount (q .answer) }) (firstHeld test (i + 1) l) .count ≤ 8
+    either true h = count-le (q .answer)
     either false h = h
 
-spot-le : (n : Names) (q : Queries) (k : Kind) (w : ℕ) → heldAt n q k w .count ≤ 8
+held-at-le : (n : Same) (q : Queries) (k : Kind) (w : ℕ) → heldAt n q k w .count ≤ 8
 unfolding heldAt
-spot-le n q k w = held-le _ 0 _
+held-at-le n q k w = held-le _ 0 _
 
-held-size : (n : Names) (q : Queries) (w : ℕ) → size (heldParts n q w) ≤ 16
-unfolding heldParts
-held-size n q w = omega (arith, spot-le n q Aaaa w, spot-le n q A w)
+held-size : (n : Same) (q : Queries) (w : ℕ) → size (heldTargets n q w) ≤ 16
+unfolding heldTargets
+held-size n q w = omega (arith, held-at-le n q Aaaa w, held-at-le n q A w)
 
-either-size : (b : Bool) (x y : Pair) (m : ℕ) → size x ≤ m → size y ≤ m → size (cond b x y) ≤ m
+either-size : (b : Bool) (x y : HostTargets) (m : ℕ) → size x ≤ m → size y ≤ m → size (cond b x y) ≤ m
 either-size true x y m h k = h
 either-size false x y m h k = k
 
-service-held-size : (r : Rules) (q : Queries) (n : Names) (s : Service) → size (serviceHeld r q n s) ≤ 16
+service-held-size : (r : Rules) (q : Queries) (n : Same) (s : Service) → size (serviceHeld r q n s) ≤ 16
 unfolding serviceHeld
 service-held-size r q n s = either-size (serviceByName r) _ _ 16 (omega arith) (held-size n q (s .name))
 
@@ -82,21 +84,23 @@ service-hints-size : (r : Rules) (i : ℕ) (s : Service) → size (serviceHints 
 unfolding serviceHints
 service-hints-size r i s = either-size (serviceByName r) _ _ 8 (omega arith) (omega (arith, hint-le (allowsSix (r .preference)) (s .n6), hint-le (allowsFour (r .preference)) (s .n4)))
 
-origin-size : (r : Rules) (q : Queries) (n : Names) → size (originParts r q n) ≤ 16
-unfolding originParts
+origin-size : (r : Rules) (q : Queries) (n : Same) → size (originTargets r q n) ≤ 16
+unfolding originTargets
 origin-size r q n = by-host (r .host)
   where
-    by-host : (h : Host) → size (originAt (byName (r .mode)) q n h) ≤ 16
+    by-host : (h : Host) → size (originOf (byName (r .mode)) q n h) ≤ 16
     by-host host.Named = either-size (byName (r .mode)) _ _ 16 (omega arith) (held-size n q 0)
     by-host (host.V4 x) = omega arith
     by-host (host.V6 a b) = omega arith
-    by-host host.Absent = omega arith
 
-alt-size : (r : Rules) (q : Queries) (n : Names) (w : ℕ) (h : Host) → size (altAt r q n w h) ≤ 16
-alt-size r q n w host.Named = either-size (byName (r .mode)) _ _ 16 (omega arith) (held-size n q w)
-alt-size r q n w (host.V4 x) = either-size (allowsFour (r .preference)) _ _ 16 (omega arith) (omega arith)
-alt-size r q n w (host.V6 a b) = either-size (allowsSix (r .preference)) _ _ 16 (omega arith) (omega arith)
-alt-size r q n w host.Absent = origin-size r q n
+own-size : (r : Rules) (q : Queries) (n : Same) (w : ℕ) (h : Host) → size (ownTargets r q n w h) ≤ 16
+own-size r q n w host.Named = either-size (byName (r .mode)) _ _ 16 (omega arith) (held-size n q w)
+own-size r q n w (host.V4 x) = either-size (allowsFour (r .preference)) _ _ 16 (omega arith) (omega arith)
+own-size r q n w (host.V6 a b) = either-size (allowsSix (r .preference)) _ _ 16 (omega arith) (omega arith)
+
+alt-size : (r : Rules) (q : Queries) (n : Same) (w : ℕ) (h : AltHost) → size (altTargets r q n w h) ≤ 16
+alt-size r q n w alt.Origin = origin-size r q n
+alt-size r q n w (alt.Own h) = own-size r q n w h
 
 -- at most two ranks, of at most m endpoints each
 each-next : (f : Rank → List Run) (k : Rank) (l : List Rank) → length (tierItems (each f (k ∷ l))) ≡ length (tierItems (f k)) + length (tierItems (each f l))
@@ -118,35 +122,35 @@ module _ (f : Rank → List Run) (m : ℕ) (few : (k : Rank) → length (tierIte
   two-ranks true b c = omega (arith, each-next f rank.H3 (combined b c), few rank.H3, one-rank b c)
   two-ranks false b c = omega (arith, one-rank b c)
 
-pub service-le : (r : Rules) (q : Queries) (n : Names) (i : ℕ) (s : Service) → length (tierItems (serviceRuns r q n i s)) ≤ 48
+pub service-le : (r : Rules) (q : Queries) (n : Same) (i : ℕ) (s : Service) → length (tierItems (serviceRuns r q n i s)) ≤ 48
 unfolding serviceRuns fromHttpVersions
-service-le r q n i s = let v = enabled (r .versions) (s .versions) in two-ranks (λ k. lot (serviceHeld r q n s) (portOr (r .port) (s .port)) (echIf (r .ech) (s .ech)) k ++ lot (serviceHints r i s) (portOr (r .port) (s .port)) (echIf (r .ech) (s .ech)) k) 24 both-lots (v .h3) (v .h2) (v .h1)
+service-le r q n i s = let v = enabled (r .versions) (s .versions) in two-ranks (λ k. hostRuns (serviceHeld r q n s) (portOr (r .port) (s .port)) (echIf (r .ech) (s .ech)) k ++ hostRuns (serviceHints r i s) (portOr (r .port) (s .port)) (echIf (r .ech) (s .ech)) k) 24 both-runs (v .h3) (v .h2) (v .h1)
   where
-    both-lots : (k : Rank) → length (tierItems (lot (serviceHeld r q n s) (portOr (r .port) (s .port)) (echIf (r .ech) (s .ech)) k ++ lot (serviceHints r i s) (portOr (r .port) (s .port)) (echIf (r .ech) (s .ech)) k)) ≤ 24
-    both-lots k =
-        rw (items-append, length-append, lot-size, lot-size)
+    both-runs : (k : Rank) → length (tierItems (hostRuns (serviceHeld r q n s) (portOr (r .port) (s .port)) (echIf (r .ech) (s .ech)) k ++ hostRuns (serviceHints r i s) (portOr (r .port) (s .port)) (echIf (r .ech) (s .ech)) k)) ≤ 24
+    both-runs k =
+        rw (items-append, length-append, runs-size, runs-size)
         (omega (arith, service-held-size r q n s, service-hints-size r i s))
 
-origin-le : (r : Rules) (q : Queries) (n : Names) → length (tierItems (originRuns r q n)) ≤ 16
+origin-le : (r : Rules) (q : Queries) (n : Same) → length (tierItems (originRuns r q n)) ≤ 16
 unfolding originRuns fromHttpVersions
-origin-le r q n = one-rank (lot (originParts r q n) (r .port) Without) 16 (λ k. omega (arith, lot-size (originParts r q n) (r .port) Without k, origin-size r q n)) (r .versions .h2) (r .versions .h1)
+origin-le r q n = one-rank (hostRuns (originTargets r q n) (r .port) Without) 16 (λ k. omega (arith, runs-size (originTargets r q n) (r .port) Without k, origin-size r q n)) (r .versions .h2) (r .versions .h1)
 
-alt-le : (r : Rules) (q : Queries) (n : Names) (i : ℕ) (a : Alt) → length (tierItems (altRuns r q n i a)) ≤ 16
+alt-le : (r : Rules) (q : Queries) (n : Same) (i : ℕ) (a : Alt) → length (tierItems (altRuns r q n i a)) ≤ 16
 unfolding altRuns
 alt-le r q n i a = on (isEnabled (r .versions) (a .version))
   where
-    on : (b : Bool) → length (tierItems (cond b (lot (altAt r q n (i + 1) (a .host)) (portOr (r .port) (a .port)) Without (rankOf (a .version))) [])) ≤ 16
-    on true = omega (arith, lot-size (altAt r q n (i + 1) (a .host)) (portOr (r .port) (a .port)) Without (rankOf (a .version)), alt-size r q n (i + 1) (a .host))
+    on : (b : Bool) → length (tierItems (cond b (hostRuns (altTargets r q n (i + 1) (a .host)) (portOr (r .port) (a .port)) Without (rankOf (a .version))) [])) ≤ 16
+    on true = omega (arith, runs-size (altTargets r q n (i + 1) (a .host)) (portOr (r .port) (a .port)) Without (rankOf (a .version)), alt-size r q n (i + 1) (a .host))
     on false = omega (arith, none-left)
 
-alts-le : (r : Rules) (q : Queries) (n : Names) (i : ℕ) (l : List Alt) → length (tierItems (altsFrom r q n i l)) ≤ 16 * length l
+alts-le : (r : Rules) (q : Queries) (n : Same) (i : ℕ) (l : List Alt) → length (tierItems (altsFrom r q n i l)) ≤ 16 * length l
 unfolding altsFrom
 alts-le r q n i [] = omega (arith, none-left)
 alts-le r q n i (a ∷ l) =
     let e = ap length (items-append (altRuns r q n i a) (altsFrom r q n (i + 1) l)) ∙ length-append (tierItems (altRuns r q n i a)) (tierItems (altsFrom r q n (i + 1) l)) in
     omega (arith, e, alt-le r q n i a, alts-le r q n (i + 1) l)
 
-pub last-le : (r : Rules) (a : Alts) (q : Queries) (n : Names) → length (a .list) ≡ 4 → length (tierItems (lastRuns r a q n)) ≤ 80
+pub last-le : (r : Rules) (a : Alts) (q : Queries) (n : Same) → length (a .list) ≡ 4 → length (tierItems (lastRuns r a q n)) ≤ 80
 unfolding lastRuns
 last-le r a q n four =
     let e = ap length (items-append (altsFrom r q n 0 (take (a .count) (a .list))) (originRuns r q n)) ∙ length-append (tierItems (altsFrom r q n 0 (take (a .count) (a .list)))) (tierItems (originRuns r q n)) in

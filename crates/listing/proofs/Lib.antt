@@ -1,12 +1,12 @@
-pub mod Walk
+-- Laws that several proofs, and the crates above, cite.
 pub mod Lookup
-pub mod Rooms
 pub mod Tiers
 pub mod Shapes
 pub mod Appending
 pub mod Sorted
+pub mod Priorities
 pub mod Bounds
-pub mod Services
+pub mod Whole
 pub mod Laws
 pub mod Endpoints
 pub mod RecordOrder

@@ -1,4 +1,4 @@
--- (H) "A host's addresses come from held answers for exactly that name, in record order." The listing takes the IPv6 addresses of the first answered AAAA
+-- (H) Document 01 takes a host's addresses "in record order". The listing takes the IPv6 addresses of the first answered AAAA
 -- record and the IPv4 addresses of the first answered A record; where a name has one record of a type, both are dealt alike wherever they stand in a tier.
 use Prim.Native.Nat.{ℕ, _+_, _*_}
 use mathlib.Core.Path.{_≡_, refl, sym, ap, _∙_}
@@ -13,21 +13,19 @@ use Rattle.deal.specs.Interleaving as dealing
 use Rattle.deal.proofs.Lists.{keep-append, keep-map}
 use Rattle.deal.proofs.Laws.{alike}
 use Rattle.records.specs.Numbers.{rankNumber}
-use Rattle.records.specs.Names.{nameAt, sameName}
-use Rattle.records.specs.declared.Names.{Names}
-use Rattle.records.specs.declared.Query.{Query}
-use Rattle.records.specs.declared.Queries.{Queries}
-use Rattle.records.specs.declared.Kind.{Kind}
-use Rattle.records.specs.declared.Kind.the-variants.{Https, Aaaa, A}
-use Rattle.records.specs.declared.Rank.{Rank}
-use Rattle.records.specs.declared.EchPlace.{EchPlace}
-use Rattle.records.specs.declared.Source.the-variants.{Held6, Held4}
-use Rattle.records.specs.declared.Item.{Item}
-use Rattle.listing.specs.declared.Run.{Run}
-use Rattle.listing.specs.Lists.{each, some?}
+use Rattle.listing.specs.Held.{Same, heldCount, isFor, isHeld, firstHeld, heldAt, heldTargets}
+use Rattle.records.specs.Lists.{each, some?}
 use Rattle.listing.specs.Items.{groupOf, itemOf, runItems}
-use Rattle.listing.specs.Held.{holding, isFor, isHeld, firstHeld, heldAt, heldParts}
-use Rattle.listing.specs.Listing.{lot, tierItems}
+use Rattle.listing.specs.Listing.{hostRuns, tierItems}
+use Rattle.records.specs.declared.queries.Query.{Query}
+use Rattle.records.specs.declared.queries.Queries.{Queries}
+use Rattle.records.specs.declared.queries.Kind.{Kind}
+use Rattle.records.specs.declared.queries.Kind.the-variants.{Https, Aaaa, A}
+use Rattle.records.specs.declared.endpoints.Rank.{Rank}
+use Rattle.records.specs.declared.names.EchPlace.{EchPlace}
+use Rattle.records.specs.declared.references.Source.the-variants.{Held6, Held4}
+use Rattle.records.specs.declared.references.Item.{Item}
+use Rattle.listing.specs.declared.runs.Run.{Run}
 use Rattle.listing.proofs.Tiers.{items-append, each-one}
 
 keep-const : {X : Type 0} (b : Bool) (l : List X) → keep (λ x. b) l ≡ cond b l []
@@ -45,11 +43,11 @@ unfolding tierItems
 one-run x = each-one runItems x
 
 -- a record has one type
-one-type : (names : Names) (w : ℕ) (q : Query) → isHeld names Aaaa w q ≡ true → isHeld names A w q ≡ false
+one-type : (same : Same) (w : ℕ) (q : Query) → isHeld same Aaaa w q ≡ true → isHeld same A w q ≡ false
 unfolding isHeld
-one-type names w q e = by (q .kind) e
+one-type same w q e = by (q .kind) e
   where
-    by : (k : Kind) → isFor Aaaa k (q .answer) && sameName (nameAt names (q .name)) (nameAt names w) ≡ true → isFor A k (q .answer) && sameName (nameAt names (q .name)) (nameAt names w) ≡ false
+    by : (k : Kind) → isFor Aaaa k (q .answer) && same (q .name) w ≡ true → isFor A k (q .answer) && same (q .name) w ≡ false
     by Https h = refl
     by Aaaa h = refl
     by A h = absurd (let z : _≡_ {A = ℕ} 0 1 = cc in omega arith)
@@ -65,7 +63,7 @@ none-found test i [] e = refl
 none-found test i (q ∷ l) e = by (test q) refl e (none-found test (i + 1) l)
   where
     by : (b : Bool) → test q ≡ b → cond b true (some? test l) ≡ false → (some? test l ≡ false → firstHeld test (i + 1) l ≡ record { query = 0; count = 0 })
-        → cond (test q) (record { query = i; count = holding (q .count) (q .answer) }) (firstHeld test (i + 1) l) ≡ record { query = 0; count = 0 }
+        → cond (test q) (record { query = i; count = heldCount (q .answer) }) (firstHeld test (i + 1) l) ≡ record { query = 0; count = 0 }
     by true p h ih = absurd (let z : _≡_ {A = ℕ} 0 1 = cc in omega arith)
     by false p h ih = rw (p) (ih h)
 
@@ -80,7 +78,7 @@ module _ (prefer6 : Bool) (port : ℕ) (rank : Rank) (ech : EchPlace) where
   pub recordRuns : (Query → Bool) → (Query → Bool) → ℕ → List Query → List Run
   recordRuns is6 is4 i [] = []
   recordRuns is6 is4 i (q ∷ l) =
-      cond (is6 q) (six i (holding (q .count) (q .answer)) ∷ []) [] ++ (cond (is4 q) (four i (holding (q .count) (q .answer)) ∷ []) [] ++ recordRuns is6 is4 (i + 1) l)
+      cond (is6 q) (six i (heldCount (q .answer)) ∷ []) [] ++ (cond (is4 q) (four i (heldCount (q .answer)) ∷ []) [] ++ recordRuns is6 is4 (i + 1) l)
 
   -- the members of group g among a run's endpoints
   part : ℕ → Run → List Item
@@ -156,7 +154,7 @@ module _ (prefer6 : Bool) (port : ℕ) (rank : Rank) (ech : EchPlace) where
     in-order i (q ∷ l) u v = by (is6 q) (is4 q) refl refl (in-order (i + 1) l (u .1) (v .1))
       where
         n : ℕ
-        n = holding (q .count) (q .answer)
+        n = heldCount (q .answer)
 
         by : (a b : Bool) → is6 q ≡ a → is4 q ≡ b → parts g (recordRuns is6 is4 (i + 1) l) ≡ found6 (i + 1) l ++ found4 (i + 1) l → parts g (recordRuns is6 is4 i (q ∷ l)) ≡ found6 i (q ∷ l) ++ found4 i (q ∷ l)
         by true true p r h = absurd (let z : _≡_ {A = ℕ} 0 1 = cc (apart-types q p) in omega arith)
@@ -172,18 +170,18 @@ module _ (prefer6 : Bool) (port : ℕ) (rank : Rank) (ech : EchPlace) where
         by false false p r h = rw (p, r) h
 
   -- a host's part of a tier, in record order or as the listing has it: dealt alike
-  module _ (names : Names) (q : Queries) (w : ℕ) (u : Once (isHeld names Aaaa w) (take (q .count) (q .list))) (v : Once (isHeld names A w) (take (q .count) (q .list))) where
-    ours : (g : ℕ) → parts g (lot (heldParts names q w) port ech rank) ≡ found6 (isHeld names Aaaa w) (isHeld names A w) (one-type names w) g 0 (take (q .count) (q .list)) ++ found4 (isHeld names Aaaa w) (isHeld names A w) (one-type names w) g 0 (take (q .count) (q .list))
-    unfolding found6 found4 heldParts heldAt six four
+  module _ (same : Same) (q : Queries) (w : ℕ) (u : Once (isHeld same Aaaa w) (take (q .count) (q .list))) (v : Once (isHeld same A w) (take (q .count) (q .list))) where
+    ours : (g : ℕ) → parts g (hostRuns (heldTargets same q w) port ech rank) ≡ found6 (isHeld same Aaaa w) (isHeld same A w) (one-type same w) g 0 (take (q .count) (q .list)) ++ found4 (isHeld same Aaaa w) (isHeld same A w) (one-type same w) g 0 (take (q .count) (q .list))
+    unfolding found6 found4 heldTargets heldAt six four
     ours g =
-        let s = heldAt names q Aaaa w in
-        let r = heldAt names q A w in
+        let s = heldAt same q Aaaa w in
+        let r = heldAt same q A w in
         parts-append g (six (s .query) (s .count) ∷ []) (four (r .query) (r .count) ∷ [])
         ∙ ap (λ x. x ++ parts g (four (r .query) (r .count) ∷ [])) (parts-one g (six (s .query) (s .count)))
         ∙ ap (λ x. part g (six (s .query) (s .count)) ++ x) (parts-one g (four (r .query) (r .count)))
 
-    one-host : (g : ℕ) → parts g (recordRuns (isHeld names Aaaa w) (isHeld names A w) 0 (take (q .count) (q .list))) ≡ parts g (lot (heldParts names q w) port ech rank)
-    one-host g = in-order (isHeld names Aaaa w) (isHeld names A w) (one-type names w) g 0 (take (q .count) (q .list)) u v ∙ sym (ours g)
+    one-host : (g : ℕ) → parts g (recordRuns (isHeld same Aaaa w) (isHeld same A w) 0 (take (q .count) (q .list))) ≡ parts g (hostRuns (heldTargets same q w) port ech rank)
+    one-host g = in-order (isHeld same Aaaa w) (isHeld same A w) (one-type same w) g 0 (take (q .count) (q .list)) u v ∙ sym (ours g)
 
     split : (g : ℕ) (before after : List Item) (l : List Run) → queue (groupOf prefer6) (before ++ (tierItems l ++ after)) g ≡ queue (groupOf prefer6) before g ++ (parts g l ++ queue (groupOf prefer6) after g)
     unfolding parts queue
@@ -192,8 +190,8 @@ module _ (prefer6 : Bool) (port : ℕ) (rank : Rank) (ech : EchPlace) where
         ∙ ap (λ y. keep (λ x. eqb (groupOf prefer6 x) g) before ++ y) (keep-append (λ x. eqb (groupOf prefer6 x) g) (tierItems l) after)
 
     pub record-order : (before after : List Item)
-        → interleave (groupOf prefer6) (before ++ (tierItems (recordRuns (isHeld names Aaaa w) (isHeld names A w) 0 (take (q .count) (q .list))) ++ after))
-        ≡ interleave (groupOf prefer6) (before ++ (tierItems (lot (heldParts names q w) port ech rank) ++ after))
+        → interleave (groupOf prefer6) (before ++ (tierItems (recordRuns (isHeld same Aaaa w) (isHeld same A w) 0 (take (q .count) (q .list))) ++ after))
+        ≡ interleave (groupOf prefer6) (before ++ (tierItems (hostRuns (heldTargets same q w) port ech rank) ++ after))
     record-order before after =
-        alike (groupOf prefer6) (before ++ (tierItems (recordRuns (isHeld names Aaaa w) (isHeld names A w) 0 (take (q .count) (q .list))) ++ after)) (before ++ (tierItems (lot (heldParts names q w) port ech rank) ++ after))
+        alike (groupOf prefer6) (before ++ (tierItems (recordRuns (isHeld same Aaaa w) (isHeld same A w) 0 (take (q .count) (q .list))) ++ after)) (before ++ (tierItems (hostRuns (heldTargets same q w) port ech rank) ++ after))
         (λ g h. split g before after _ ∙ ap (λ y. queue (groupOf prefer6) before g ++ (y ++ queue (groupOf prefer6) after g)) (one-host g) ∙ sym (split g before after _))

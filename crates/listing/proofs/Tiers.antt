@@ -9,17 +9,18 @@ use lib.ListN.{length, take, drop, getD, set, length-append, length-map, List·g
 use lib.Seq.{take-suc, split-at, take-all}
 use Rattle.deal.specs.Interleaving.{upto}
 use Rattle.deal.proofs.Laws.{length-upto}
-use Rattle.records.specs.declared.Rank.the-variants as rank
-use Rattle.records.specs.declared.EchPlace.the-variants.{Without}
-use Rattle.records.specs.declared.Source.the-variants.{Held6}
-use Rattle.listing.specs.declared.Run.{Run}
-use Rattle.records.specs.declared.Item.{Item}
-use Rattle.listing.specs.Lists.{each}
-use Rattle.listing.specs.declared.Tier.{Tier}
-use Rattle.listing.specs.Items.{noItem, groupOf, itemOf, runItems}
-use Rattle.listing.specs.Room.{padded, tiered}
-use Rattle.listing.proofs.Rooms.{padded-set}
+use Rattle.records.specs.declared.endpoints.Rank.the-variants as rank
+use Rattle.records.specs.declared.names.EchPlace.the-variants.{Without}
+use Rattle.records.specs.declared.references.Source.the-variants.{Held6}
+use Rattle.listing.specs.declared.runs.Run.{Run}
+use Rattle.records.specs.declared.references.Item.{Item}
+use Rattle.records.specs.Lists.{each, padded}
+use Rattle.records.specs.References.{noItem}
+use Rattle.listing.specs.Items.{groupOf, itemOf, runItems}
+use Rattle.listing.specs.Room.{grouped}
 use Rattle.listing.specs.Listing.{tierItems}
+use Rattle.listing.specs.declared.runs.Undealt.{Undealt}
+use Rattle.records.proofs.Rooms.{padded-set}
 
 module _ {A B : Type 0} (f : A → List B) where
   pub each-append : (xs ys : List A) → each f (xs ++ ys) ≡ each f xs ++ each f ys
@@ -31,6 +32,21 @@ module _ {A B : Type 0} (f : A → List B) where
   unfolding each
   each-one x = append-nil (f x)
 
+pub each-none : {A B : Type 0} (f : A → List B) → each f [] ≡ []
+unfolding each
+each-none f = refl
+
+module _ {A B C : Type 0} (h : B → C) where
+  pub map-each : (f : A → List B) (g : A → List C) → ((x : A) → map h (f x) ≡ g x) → (l : List A) → map h (each f l) ≡ each g l
+  unfolding each
+  map-each f g same [] = refl
+  map-each f g same (x ∷ l) = map-append h (f x) (each f l) ∙ ap (λ y. y ++ map h (each f l)) (same x) ∙ ap (λ y. g x ++ y) (map-each f g same l)
+
+pub each-map : {A B C : Type 0} (f : B → List C) (k : A → B) (l : List A) → each f (map k l) ≡ each (λ x. f (k x)) l
+unfolding each
+each-map f k [] = refl
+each-map f k (x ∷ l) = ap (λ y. f (k x) ++ y) (each-map f k l)
+
 pub items-append : (xs ys : List Run) → tierItems (xs ++ ys) ≡ tierItems xs ++ tierItems ys
 unfolding tierItems
 items-append xs ys = each-append runItems xs ys
@@ -41,7 +57,7 @@ run-length r = length-map (upto (r .count)) (itemOf r) ∙ length-upto (r .count
 
 -- what is read past the last run
 abbrev pub noRun : Run
-noRun = record { source = Held6 0; count = 0; port = 0; rank = rank.H3; ech = Without }
+noRun = record { source = Held6 0; port = 0; count = 0; rank = rank.H3; ech = Without }
 
 unfoldable pub before : List Run → ℕ → ℕ → List Item
 before runs r p = tierItems (take r runs) ++ map (itemOf (getD runs r noRun)) (upto p)
@@ -102,17 +118,17 @@ pub record Filling (prefer6 : Bool) (runs : List Run) (r p at : ℕ) (list : Lis
   pub inside : p ≤ getD runs r noRun .count
   pub counted : at ≡ length (before runs r p)
   pub items : list ≡ padded 80 noItem (before runs r p)
-  pub grouped : groups ≡ padded 80 0 (map (groupOf prefer6) (before runs r p))
+  pub sorted : groups ≡ padded 80 0 (map (groupOf prefer6) (before runs r p))
 
-pub filling-none : (prefer6 : Bool) (runs : List Run) (t : Tier) → t ≡ tiered false [] → Filling prefer6 runs 0 0 0 (t .list) (t .groups)
-unfolding tiered
+pub filling-none : (prefer6 : Bool) (runs : List Run) (t : Undealt) → t ≡ grouped false [] → Filling prefer6 runs 0 0 0 (t .list) (t .groups)
+unfolding grouped
 filling-none prefer6 runs t e =
     record {
       within = omega arith;
       inside = omega arith;
       counted = sym (ap length (before-none runs));
       items = ap (λ x. x .list) e ∙ ap (padded 80 noItem) (sym (before-none runs));
-      grouped = ap (λ x. x .groups) e ∙ ap (λ l. padded 80 0 (map (groupOf prefer6) l)) (sym (before-none runs));
+      sorted = ap (λ x. x .groups) e ∙ ap (λ l. padded 80 0 (map (groupOf prefer6) l)) (sym (before-none runs));
     }
 
 module _ (prefer6 : Bool) (runs : List Run) (r p at : ℕ) (list : List Item) (groups : List ℕ) (f : Filling prefer6 runs r p at list groups) (ten : length runs ≡ 10) where
@@ -124,7 +140,7 @@ module _ (prefer6 : Bool) (runs : List Run) (r p at : ℕ) (list : List Item) (g
         inside = omega arith;
         counted = f .counted ∙ ap length (sym turn);
         items = f .items ∙ ap (padded 80 noItem) (sym turn);
-        grouped = f .grouped ∙ ap (λ l. padded 80 0 (map (groupOf prefer6) l)) (sym turn);
+        sorted = f .sorted ∙ ap (λ l. padded 80 0 (map (groupOf prefer6) l)) (sym turn);
       }
     where
       turn : before runs (r + 1) 0 ≡ before runs r p
@@ -144,8 +160,8 @@ module _ (prefer6 : Bool) (runs : List Run) (r p at : ℕ) (list : List Item) (g
         items =
             ap (λ l. set l at x) (f .items) ∙ ap (λ n. set (padded 80 noItem (before runs r p)) n x) (f .counted)
             ∙ padded-set noItem 80 (before runs r p) x room ∙ ap (λ y. padded 80 noItem (before runs r p ++ (y ∷ []))) e ∙ ap (padded 80 noItem) (sym more);
-        grouped =
-            ap (λ l. set l at g) (f .grouped) ∙ ap (λ n. set (padded 80 0 (map (groupOf prefer6) (before runs r p))) n g) (f .counted ∙ sym (length-map (before runs r p) (groupOf prefer6)))
+        sorted =
+            ap (λ l. set l at g) (f .sorted) ∙ ap (λ n. set (padded 80 0 (map (groupOf prefer6) (before runs r p))) n g) (f .counted ∙ sym (length-map (before runs r p) (groupOf prefer6)))
             ∙ padded-set 0 80 (map (groupOf prefer6) (before runs r p)) g (rw (length-map) room)
             ∙ ap (λ y. padded 80 0 (map (groupOf prefer6) (before runs r p) ++ (y ∷ []))) (q ∙ ap (groupOf prefer6) e)
             ∙ ap (padded 80 0) (sym (map-append (groupOf prefer6) (before runs r p) (itemOf (getD runs r noRun) p ∷ [])) ∙ ap (map (groupOf prefer6)) (sym more));
@@ -157,14 +173,14 @@ module _ (prefer6 : Bool) (runs : List Run) (r p at : ℕ) (list : List Item) (g
       room : length (before runs r p) < 80
       room = omega (arith, before-short runs r p (omega (arith, ten)) k)
 
-  pub filling-end : 10 ≤ r → record { count = at; list = list; groups = groups } ≡ tiered prefer6 (tierItems runs)
-  unfolding tiered
+  pub filling-end : 10 ≤ r → record { count = at; list = list; groups = groups } ≡ grouped prefer6 (tierItems runs)
+  unfolding grouped
   filling-end h =
       λ j.
       record {
         count = (f .counted ∙ ap length all) j;
         list = (f .items ∙ ap (padded 80 noItem) all) j;
-        groups = (f .grouped ∙ ap (λ l. padded 80 0 (map (groupOf prefer6) l)) all) j;
+        groups = (f .sorted ∙ ap (λ l. padded 80 0 (map (groupOf prefer6) l)) all) j;
       }
     where
       all : before runs r p ≡ tierItems runs

@@ -1,25 +1,20 @@
--- Runs of listed endpoints, and the group in which each is dealt.
+-- Runs of listed endpoints: rule 4.13 (document 01, part 4); and the group in which each is dealt: rule 3.1 (document 01, part 3).
 use Prim.Native.Nat.{ℕ}
 use mathlib.Core.Bool.{Bool, cond}
 use mathlib.Core.List.{List, map}
 use Rattle.deal.specs.Interleaving.{upto}
 use Rattle.deal.specs.Interleaving as dealing
 use Rattle.records.specs.Numbers.{rankNumber}
-use Rattle.records.specs.declared.Rank.{Rank}
-use Rattle.records.specs.declared.Rank.the-variants as rank
-use Rattle.records.specs.declared.EchPlace.{EchPlace}
-use Rattle.records.specs.declared.EchPlace.the-variants.{Without}
-use Rattle.records.specs.declared.Source.{Source}
-use Rattle.records.specs.declared.Source.the-variants.{Held6, Held4, Hint6, Hint4, Literal6, Literal4, Name}
-use Rattle.records.specs.declared.Target.{Target}
-use Rattle.records.specs.declared.Target.the-variants.{V4, V6, Named}
-use Rattle.records.specs.declared.Endpoint.{Endpoint}
-use Rattle.listing.specs.declared.Part.{Part}
-use Rattle.listing.specs.declared.Run.{Run}
-use Rattle.records.specs.declared.Item.{Item}
-
-abbrev pub noItem : Item
-noItem = record { source = Held6 0; place = 0; port = 0; rank = rank.H3; ech = Without }
+use Rattle.records.specs.declared.endpoints.Rank.{Rank}
+use Rattle.records.specs.declared.names.EchPlace.{EchPlace}
+use Rattle.records.specs.declared.references.Source.{Source}
+use Rattle.records.specs.declared.references.Source.the-variants.{Held6, Held4, Hint6, Hint4, Literal6, Literal4, Name}
+use Rattle.records.specs.declared.endpoints.Target.{Target}
+use Rattle.records.specs.declared.endpoints.Target.the-variants.{V4, V6, Named}
+use Rattle.records.specs.declared.endpoints.Endpoint.{Endpoint}
+use Rattle.listing.specs.declared.hosts.Targets.{Targets}
+use Rattle.listing.specs.declared.runs.Run.{Run}
+use Rattle.records.specs.declared.references.Item.{Item}
 
 -- 0 for the preferred family, 1 for the other; "Names count as preferred"
 abbrev pub familyOf : Bool → Source → ℕ
@@ -46,10 +41,10 @@ endpointGroup prefer6 e = dealing.groupOf (rankNumber (e .rank)) (targetFamily p
 
 -- a run: the first so many places of one source, with one port, rank and ECH place
 abbrev pub itemOf : Run → ℕ → Item
-itemOf r p = record { source = r .source; place = p; port = r .port; rank = r .rank; ech = r .ech }
+itemOf r p = record { source = r .source; port = r .port; place = p; rank = r .rank; ech = r .ech }
 
 unfoldable pub runItems : Run → List Item
 runItems r = map (itemOf r) (upto (r .count))
 
-abbrev pub run : Part → ℕ → Rank → EchPlace → Run
-run x port rank ech = record { source = x .source; count = x .count; port = port; rank = rank; ech = ech }
+abbrev pub run : Targets → ℕ → Rank → EchPlace → Run
+run x port rank ech = record { source = x .source; port = port; count = x .count; rank = rank; ech = ech }

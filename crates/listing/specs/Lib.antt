@@ -1,4 +1,4 @@
-pub mod Lists
+pub mod Order
 pub mod Items
 pub mod Held
 pub mod Listing

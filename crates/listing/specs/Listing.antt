@@ -1,51 +1,54 @@
--- The listing, document 01 part 4 as the Rust has it (`endpoints_to_attempt`): which endpoints are attempted, and in which order.
+-- The listing as the Rust has it (`endpoints_to_attempt`): which endpoints are attempted, in which order. Rules 4.1 to 4.15 (document 01, part 4).
 -- Each sentence of part 4 and its definition, from the whole down (docs/DIFFERENCES.md, 1 to 3, has what the Rust corrects):
---     "Services by priority, stable" ordered; "each interleaved alone" dealt, itemsToAttempt; "skip those without ECH .." anyEch, usable
---     "Unless so, then alternative services and origin together, interleaved" tiers, lastRuns
---     (H) "A service's endpoints" serviceHeld, serviceHints, serviceRuns; its versions fromHttpVersions, enabled
---     (H) "Origin fallback" originParts, originRuns; (H) "A host's addresses" Held.heldAt
---     "An alternative service" altAt, altRuns; the name of a by-name endpoint is records' connectName
+--     "Services by priority, stable" ordered; "each interleaved alone" dealt, itemsToAttempt (rules 4.5 and 4.15)
+--     "skip those without ECH .." records' anyEch, usable (rule 4.6); "Unless so, then alternative services and origin together" tiers, lastRuns
+--     (H) "A service's endpoints" serviceHeld, serviceHints, serviceRuns (rules 4.7 and 4.8); its versions fromHttpVersions, enabled (rule 4.3)
+--     (H) "Origin fallback" originTargets, originRuns (rule 4.9); (H) "A host's addresses" Held.heldAt (rule 4.11)
+--     "An alternative service" altTargets, altRuns (rule 4.10); the name of a by-name endpoint is records' connectName (rule 4.12)
+-- `same` says of two places among the names whether they hold the same name (rule S.7).
 use Prim.Native.Nat.{ℕ, _+_, min}
 use mathlib.Core.Bool.{Bool, true, false, cond, _&&_}
 use mathlib.Core.List.{List, [], _∷_, _++_, map}
-use lib.ListN.{take, getD}
+use lib.ListN.{length, take, getD}
 use Rattle.deal.specs.Interleaving.{interleave, keep}
+use Rattle.records.specs.Lists.{each}
+use Rattle.records.specs.Names.{sameAt}
+use Rattle.records.specs.Rules.{prefersSix, allowsSix, allowsFour, byName, withHttps, isNamed}
+use Rattle.records.specs.Services.{offered, anyEch, isUsable, blankService}
 use Rattle.records.specs.Endpoints.{Shown, shown}
-use Rattle.records.specs.declared.Names.{Names}
-use Rattle.records.specs.declared.Echs.{Echs}
-use Rattle.records.specs.declared.Rules.{Rules}
-use Rattle.records.specs.declared.Alt.{Alt}
-use Rattle.records.specs.declared.Alts.{Alts}
-use Rattle.records.specs.declared.Queries.{Queries}
-use Rattle.records.specs.declared.Answers.{Answers}
-use Rattle.records.specs.declared.Service.{Service}
-use Rattle.records.specs.declared.Services.{Services}
-use Rattle.records.specs.declared.Host.{Host}
-use Rattle.records.specs.declared.Host.the-variants as host
-use Rattle.records.specs.declared.Mode.{Mode}
-use Rattle.records.specs.declared.Mode.the-variants as mode
-use Rattle.records.specs.declared.Preference.{Preference}
-use Rattle.records.specs.declared.Preference.the-variants.{DualStackPreferV6, DualStackPreferV4, Ipv6Only, Ipv4Only}
-use Rattle.records.specs.declared.Port.{Port}
-use Rattle.records.specs.declared.Port.the-variants.{Origin, Own}
-use Rattle.records.specs.declared.Version.{Version}
-use Rattle.records.specs.declared.Version.the-variants as version
-use Rattle.records.specs.declared.Versions.{Versions}
-use Rattle.records.specs.declared.Rank.{Rank}
-use Rattle.records.specs.declared.Rank.the-variants as rank
-use Rattle.records.specs.declared.EchPlace.{EchPlace}
-use Rattle.records.specs.declared.EchPlace.the-variants.{Without, At}
-use Rattle.records.specs.declared.Endpoint.{Endpoint}
-use Rattle.records.specs.declared.Source.{Source}
-use Rattle.records.specs.declared.Source.the-variants.{Held6, Hint6, Hint4, Literal6, Literal4, Name}
-use Rattle.listing.specs.declared.Part.{Part}
-use Rattle.listing.specs.declared.Pair.{Pair}
-use Rattle.listing.specs.declared.Run.{Run}
-use Rattle.records.specs.declared.Item.{Item}
-use Rattle.listing.specs.Lists.{each, some?, byPriority}
-use Rattle.records.specs.References.{noService, endpointOf}
+use Rattle.records.specs.References.{endpointOf}
+use Rattle.records.specs.declared.names.Names.{Names}
+use Rattle.records.specs.declared.names.Echs.{Echs}
+use Rattle.records.specs.declared.names.EchPlace.{EchPlace}
+use Rattle.records.specs.declared.names.EchPlace.the-variants.{Without}
+use Rattle.records.specs.declared.rules.Rules.{Rules}
+use Rattle.records.specs.declared.rules.Alt.{Alt}
+use Rattle.records.specs.declared.rules.Alts.{Alts}
+use Rattle.records.specs.declared.rules.AltHost.{AltHost}
+use Rattle.records.specs.declared.rules.AltHost.the-variants as alt
+use Rattle.records.specs.declared.rules.Host.{Host}
+use Rattle.records.specs.declared.rules.Host.the-variants as host
+use Rattle.records.specs.declared.rules.Port.{Port}
+use Rattle.records.specs.declared.rules.Port.the-variants.{Origin, Own}
+use Rattle.records.specs.declared.rules.Version.{Version}
+use Rattle.records.specs.declared.rules.Version.the-variants as version
+use Rattle.records.specs.declared.rules.Versions.{Versions}
+use Rattle.records.specs.declared.queries.Queries.{Queries}
+use Rattle.records.specs.declared.queries.Answers.{Answers}
+use Rattle.records.specs.declared.services.Service.{Service}
+use Rattle.records.specs.declared.services.Services.{Services}
+use Rattle.records.specs.declared.endpoints.Rank.{Rank}
+use Rattle.records.specs.declared.endpoints.Rank.the-variants as rank
+use Rattle.records.specs.declared.endpoints.Endpoint.{Endpoint}
+use Rattle.records.specs.declared.references.Source.{Source}
+use Rattle.records.specs.declared.references.Source.the-variants.{Held6, Hint6, Hint4, Literal6, Literal4, Name}
+use Rattle.records.specs.declared.references.Item.{Item}
+use Rattle.listing.specs.declared.hosts.Targets.{Targets}
+use Rattle.listing.specs.declared.hosts.HostTargets.{HostTargets}
+use Rattle.listing.specs.declared.runs.Run.{Run}
+use Rattle.listing.specs.Order.{byPriority}
 use Rattle.listing.specs.Items.{run, runItems, groupOf}
-use Rattle.listing.specs.Held.{heldParts}
+use Rattle.listing.specs.Held.{Same, heldTargets}
 
 -- "combined by `from_http_versions`": H3 alone; H2 and H1 as one where both are there
 abbrev pub combined : Bool → Bool → List Rank
@@ -75,24 +78,6 @@ rankOf version.H3 = rank.H3
 rankOf version.H2 = rank.H2
 rankOf version.H1 = rank.H1
 
-abbrev pub prefersSix : Preference → Bool
-prefersSix DualStackPreferV6 = true
-prefersSix DualStackPreferV4 = false
-prefersSix Ipv6Only = true
-prefersSix Ipv4Only = false
-
-abbrev pub allowsSix : Preference → Bool
-allowsSix DualStackPreferV6 = true
-allowsSix DualStackPreferV4 = true
-allowsSix Ipv6Only = true
-allowsSix Ipv4Only = false
-
-abbrev pub allowsFour : Preference → Bool
-allowsFour DualStackPreferV6 = true
-allowsFour DualStackPreferV4 = true
-allowsFour Ipv6Only = false
-allowsFour Ipv4Only = true
-
 -- "its port or the origin's"
 abbrev pub portOr : ℕ → Port → ℕ
 portOr origin Origin = origin
@@ -102,50 +87,29 @@ portOr origin (Own p) = p
 abbrev pub echIf : Bool → EchPlace → EchPlace
 echIf on e = cond on e Without
 
-abbrev pub hasEch : EchPlace → Bool
-hasEch Without = false
-hasEch (At p) = true
+-- no target of any source, and one of a source alone
+abbrev pub noTargets : Targets
+noTargets = record { source = Held6 0; count = 0 }
 
--- "the by-name modes"
-abbrev pub byName : Mode → Bool
-byName mode.Ip = false
-byName mode.Name = true
-byName mode.NameWithHttpsRr = true
+abbrev pub nothing : HostTargets
+nothing = record { first = noTargets; second = noTargets }
 
-abbrev pub withHttps : Mode → Bool
-withHttps mode.Ip = false
-withHttps mode.Name = false
-withHttps mode.NameWithHttpsRr = true
+abbrev pub oneTarget : Source → HostTargets
+oneTarget s = record { first = record { source = s; count = 1 }; second = noTargets }
 
-abbrev pub isNamed : Host → Bool
-isNamed host.Named = true
-isNamed (host.V4 x) = false
-isNamed (host.V6 h l) = false
-isNamed host.Absent = false
-
--- one place of a source, or none of any
-abbrev pub none : Part
-none = record { source = Held6 0; count = 0 }
-
-abbrev pub nothing : Pair
-nothing = record { first = none; second = none }
-
-abbrev pub one : Source → Pair
-one s = record { first = record { source = s; count = 1 }; second = none }
-
--- a pair of parts at a rank
-abbrev pub lot : Pair → ℕ → EchPlace → Rank → List Run
-lot x port ech rank = run (x .first) port rank ech ∷ run (x .second) port rank ech ∷ []
+-- what a host has, at a rank
+abbrev pub hostRuns : HostTargets → ℕ → EchPlace → Rank → List Run
+hostRuns x port ech rank = run (x .first) port rank ech ∷ run (x .second) port rank ech ∷ []
 
 -- "in `NameWithHttpsRr` with a named origin"
 abbrev pub serviceByName : Rules → Bool
 serviceByName r = isNamed (r .host) && withHttps (r .mode)
 
 -- (H) A service's endpoints, as the Rust has them: by name, its target's name; else the answers held for its name, then its hints of the allowed families
-unfoldable pub serviceHeld : Rules → Queries → Names → Service → Pair
-serviceHeld r q n s = cond (serviceByName r) (one (Name (s .name))) (heldParts n q (s .name))
+unfoldable pub serviceHeld : Rules → Queries → Same → Service → HostTargets
+serviceHeld r q same s = cond (serviceByName r) (oneTarget (Name (s .name))) (heldTargets same q (s .name))
 
-unfoldable pub serviceHints : Rules → ℕ → Service → Pair
+unfoldable pub serviceHints : Rules → ℕ → Service → HostTargets
 serviceHints r i s =
     cond (serviceByName r) nothing
     (record {
@@ -154,88 +118,88 @@ serviceHints r i s =
     })
 
 -- with each of its enabled versions, "its port or the origin's; its ECH if ECH is on"
-unfoldable pub serviceRuns : Rules → Queries → Names → ℕ → Service → List Run
-serviceRuns r q n i s =
+unfoldable pub serviceRuns : Rules → Queries → Same → ℕ → Service → List Run
+serviceRuns r q same i s =
     each
-    (λ k. lot (serviceHeld r q n s) (portOr (r .port) (s .port)) (echIf (r .ech) (s .ech)) k ++ lot (serviceHints r i s) (portOr (r .port) (s .port)) (echIf (r .ech) (s .ech)) k)
+    (λ k. hostRuns (serviceHeld r q same s) (portOr (r .port) (s .port)) (echIf (r .ech) (s .ech)) k ++ hostRuns (serviceHints r i s) (portOr (r .port) (s .port)) (echIf (r .ech) (s .ech)) k)
     (fromHttpVersions (enabled (r .versions) (s .versions)))
 
 -- "the origin's addresses, or its name in the by-name modes"; an address is listed whatever the preference
-abbrev pub originAt : Bool → Queries → Names → Host → Pair
-originAt names? q n host.Named = cond names? (one (Name 0)) (heldParts n q 0)
-originAt names? q n (host.V4 x) = one (Literal4 0)
-originAt names? q n (host.V6 h l) = one (Literal6 0)
-originAt names? q n host.Absent = nothing
+abbrev pub originOf : Bool → Queries → Same → Host → HostTargets
+originOf named? q same host.Named = cond named? (oneTarget (Name 0)) (heldTargets same q 0)
+originOf named? q same (host.V4 x) = oneTarget (Literal4 0)
+originOf named? q same (host.V6 h l) = oneTarget (Literal6 0)
 
-unfoldable pub originParts : Rules → Queries → Names → Pair
-originParts r q n = originAt (byName (r .mode)) q n (r .host)
+unfoldable pub originTargets : Rules → Queries → Same → HostTargets
+originTargets r q same = originOf (byName (r .mode)) q same (r .host)
 
 -- "enabled among H2, H1, combined .. no ECH"
-unfoldable pub originRuns : Rules → Queries → Names → List Run
-originRuns r q n = each (lot (originParts r q n) (r .port) Without) (fromHttpVersions (record { h3 = false; h2 = r .versions .h2; h1 = r .versions .h1 }))
+unfoldable pub originRuns : Rules → Queries → Same → List Run
+originRuns r q same = each (hostRuns (originTargets r q same) (r .port) Without) (fromHttpVersions (record { h3 = false; h2 = r .versions .h2; h1 = r .versions .h1 }))
 
--- "its host's addresses, the origin's without host; a literal only if its family is allowed"; by name its own name. The host of number i is at i + 1.
-abbrev pub altAt : Rules → Queries → Names → ℕ → Host → Pair
-altAt r q n w host.Named = cond (byName (r .mode)) (one (Name w)) (heldParts n q w)
-altAt r q n w (host.V4 x) = cond (allowsFour (r .preference)) (one (Literal4 w)) nothing
-altAt r q n w (host.V6 h l) = cond (allowsSix (r .preference)) (one (Literal6 w)) nothing
-altAt r q n w host.Absent = originParts r q n
+-- an alternative's own host: its addresses, or by name its name; "a literal only if its family is allowed". The host of number i is at i + 1.
+abbrev pub ownTargets : Rules → Queries → Same → ℕ → Host → HostTargets
+ownTargets r q same w host.Named = cond (byName (r .mode)) (oneTarget (Name w)) (heldTargets same q w)
+ownTargets r q same w (host.V4 x) = cond (allowsFour (r .preference)) (oneTarget (Literal4 w)) nothing
+ownTargets r q same w (host.V6 h l) = cond (allowsSix (r .preference)) (oneTarget (Literal6 w)) nothing
+
+-- "the origin's without host"
+abbrev pub altTargets : Rules → Queries → Same → ℕ → AltHost → HostTargets
+altTargets r q same w alt.Origin = originTargets r q same
+altTargets r q same w (alt.Own h) = ownTargets r q same w h
 
 -- "its version if enabled, its port or the origin's, no ECH"
-unfoldable pub altRuns : Rules → Queries → Names → ℕ → Alt → List Run
-altRuns r q n i a = cond (isEnabled (r .versions) (a .version)) (lot (altAt r q n (i + 1) (a .host)) (portOr (r .port) (a .port)) Without (rankOf (a .version))) []
+unfoldable pub altRuns : Rules → Queries → Same → ℕ → Alt → List Run
+altRuns r q same i a = cond (isEnabled (r .versions) (a .version)) (hostRuns (altTargets r q same (i + 1) (a .host)) (portOr (r .port) (a .port)) Without (rankOf (a .version))) []
 
-unfoldable pub altsFrom : Rules → Queries → Names → ℕ → List Alt → List Run
-altsFrom r q n i [] = []
-altsFrom r q n i (a ∷ l) = altRuns r q n i a ++ altsFrom r q n (i + 1) l
+unfoldable pub altsFrom : Rules → Queries → Same → ℕ → List Alt → List Run
+altsFrom r q same i [] = []
+altsFrom r q same i (a ∷ l) = altRuns r q same i a ++ altsFrom r q same (i + 1) l
 
 -- the last tier: alternative services and origin together
-unfoldable pub lastRuns : Rules → Alts → Queries → Names → List Run
-lastRuns r a q n = altsFrom r q n 0 (take (a .count) (a .list)) ++ originRuns r q n
-
--- the services that are held, a count above 4 cut at 4
-abbrev pub offered : Services → List Service
-offered s = take (s .count) (s .list)
+unfoldable pub lastRuns : Rules → Alts → Queries → Same → List Run
+lastRuns r a q same = altsFrom r q same 0 (take (a .count) (a .list)) ++ originRuns r q same
 
 abbrev pub serviceAt : Services → ℕ → Service
-serviceAt s i = getD (s .list) i noService
-
--- "if ECH is on and any has it"
-unfoldable pub anyEch : Bool → Services → Bool
-anyEch on s = on && some? (λ x. hasEch (x .ech)) (offered s)
-
--- "skip those without ECH" then
-abbrev pub isUsable : Bool → Services → ℕ → Bool
-isUsable sealed s i = cond sealed (hasEch (serviceAt s i .ech)) true
+serviceAt s i = getD (s .list) i blankService
 
 -- "Services by priority, stable", by their places in the answer
 unfoldable pub ordered : Services → List ℕ
 ordered s = byPriority (map (λ x. x .priority) (offered s))
 
-unfoldable pub usable : Rules → Services → List ℕ
-usable r s = keep (isUsable (anyEch (r .ech) s) s) (ordered s)
+-- those that are used
+unfoldable pub usable : Bool → Services → List ℕ
+usable on s = keep (λ i. isUsable (anyEch on s) (serviceAt s i .ech)) (ordered s)
 
 -- the endpoints of a tier before they are dealt
 unfoldable pub tierItems : List Run → List Item
 tierItems runs = each runItems runs
 
-unfoldable pub serviceTiers : Rules → Queries → Services → Names → List (List Item)
-serviceTiers r q s n = map (λ i. tierItems (serviceRuns r q n i (serviceAt s i))) (usable r s)
+unfoldable pub serviceTiers : Rules → Queries → Services → Same → List (List Item)
+serviceTiers r q s same = map (λ i. tierItems (serviceRuns r q same i (serviceAt s i))) (usable (r .ech) s)
 
 -- "Unless so, then alternative services and origin together"
-unfoldable pub tiers : Rules → Alts → Queries → Services → Names → List (List Item)
-tiers r a q s n = serviceTiers r q s n ++ cond (anyEch (r .ech) s) [] (tierItems (lastRuns r a q n) ∷ [])
+unfoldable pub tiers : Rules → Alts → Queries → Services → Same → List (List Item)
+tiers r a q s same = serviceTiers r q s same ++ cond (anyEch (r .ech) s) [] (tierItems (lastRuns r a q same) ∷ [])
 
 -- "each interleaved alone"
 unfoldable pub dealt : Rules → List Item → List Item
 dealt r xs = interleave (groupOf (prefersSix (r .preference))) xs
 
-unfoldable pub itemsToAttempt : Rules → Alts → Queries → Services → Names → List Item
-itemsToAttempt r a q s n = each (dealt r) (tiers r a q s n)
+-- how many tiers there are
+unfoldable pub tierCount : Rules → Services → ℕ
+tierCount r s = length (usable (r .ech) s) + cond (anyEch (r .ech) s) 0 1
+
+-- tier k of the listing; none past the last
+unfoldable pub tierAt : Rules → Alts → Queries → Services → Same → ℕ → List Item
+tierAt r a q s same k = dealt r (getD (tiers r a q s same) k [])
+
+unfoldable pub itemsToAttempt : Rules → Alts → Queries → Services → Same → List Item
+itemsToAttempt r a q s same = each (dealt r) (tiers r a q s same)
 
 -- the listing as endpoints, and as endpoints with their bytes
-unfoldable pub endpointsToAttempt : Rules → Alts → Queries → Answers → Services → Names → List Endpoint
-endpointsToAttempt r a q d s n = map (endpointOf r a d s) (itemsToAttempt r a q s n)
+unfoldable pub endpointsToAttempt : Rules → Alts → Queries → Answers → Services → Same → List Endpoint
+endpointsToAttempt r a q d s same = map (endpointOf r a d s) (itemsToAttempt r a q s same)
 
 unfoldable pub shownToAttempt : Rules → Alts → Queries → Answers → Services → Names → Echs → List Shown
-shownToAttempt r a q d s n e = map (shown n e) (endpointsToAttempt r a q d s n)
+shownToAttempt r a q d s n e = map (shown n e) (endpointsToAttempt r a q d s (sameAt n))

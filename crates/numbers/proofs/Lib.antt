@@ -8,6 +8,7 @@ pub mod NumberLaws
 pub mod PutLaws
 pub mod RoundTrip
 pub mod Settled
+pub mod Shortest
 pub mod Steps
 pub mod Undotted
 pub mod WriteLaws

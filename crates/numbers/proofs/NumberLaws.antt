@@ -14,6 +14,7 @@ use lib.Pow.{pow-add, pow-mono}
 use borrow.Author.Tests.{lt-ltb, le-ltb, le-leb, lt-leb, ne-eqb}
 use Rattle.numbers.specs.Got.{Got, got, refused}
 use Rattle.numbers.specs.Numbers.{below, groups, readNumber}
+use Rattle.numbers.specs.Refusals.{cut, badNumber}
 
 pub on : (i v : ℕ) → Got ℕ → Got ℕ
 on zero v r = r
@@ -50,12 +51,12 @@ unfolding on below
 on-got zero v u next h n = let e : v + 1 * u ≡ u = omega arith in ap (λ (x : ℕ). got x next) (sym e)
 on-got (suc i) v u next h n = below-got v (2 ^ (7 * suc i)) u next (λ e. let z : suc i ≡ 0 = n e in omega arith)
 
-on-zero : (i v next : ℕ) → 0 < i → on i v (got 0 next) ≡ refused 2
+on-zero : (i v next : ℕ) → 0 < i → on i v (got 0 next) ≡ refused badNumber
 unfolding on below
 on-zero zero v next h = absurd (omega arith)
 on-zero (suc i) v next h = refl
 
-pub groups-end : (k p : ℕ) → groups k p [] ≡ refused 1
+pub groups-end : (k p : ℕ) → groups k p [] ≡ refused cut
 unfolding groups
 groups-end zero p = refl
 groups-end (suc k) p = refl
@@ -65,7 +66,7 @@ unfolding groups
 groups-last zero p b s h t = simp (le-leb b 1 (t refl))
 groups-last (suc k) p b s h t = simp (lt-ltb b 128 h)
 
-pub groups-tenth : (p b : ℕ) (s : List ℕ) → 1 < b → groups 0 p (b ∷ s) ≡ refused 2
+pub groups-tenth : (p b : ℕ) (s : List ℕ) → 1 < b → groups 0 p (b ∷ s) ≡ refused badNumber
 unfolding groups
 groups-tenth p b s h = simp (lt-leb b 1 h)
 
@@ -81,19 +82,19 @@ pub at-start : (s : List ℕ) (p : ℕ) → here s 0 0 p ≡ readNumber s p
 unfolding here on readNumber
 at-start s p = refl
 
-pub at-end : (s : List ℕ) (i v p : ℕ) → length s ≤ p → here s i v p ≡ refused 1
+pub at-end : (s : List ℕ) (i v p : ℕ) → length s ≤ p → here s i v p ≡ refused cut
 unfolding here
-at-end s i v p h = rw (drop-of-length-le s h, groups-end) (on-refused i v 1)
+at-end s i v p h = rw (drop-of-length-le s h, groups-end) (on-refused i v cut)
 
 module _ (s : List ℕ) (i v p : ℕ) (inside : p < length s) where
   front : drop p s ≡ getD s p 0 ∷ drop (p + 1) s
   front = rw add-one (drop-cons s p 0 inside)
 
-  pub at-tenth : i ≡ 9 → 1 < getD s p 0 → here s i v p ≡ refused 2
+  pub at-tenth : i ≡ 9 → 1 < getD s p 0 → here s i v p ≡ refused badNumber
   unfolding here
-  at-tenth e h = rw (front, e, groups-tenth) (on-refused 9 v 2)
+  at-tenth e h = rw (front, e, groups-tenth) (on-refused 9 v badNumber)
 
-  pub at-zero : getD s p 0 ≡ 0 → 0 < i → here s i v p ≡ refused 2
+  pub at-zero : getD s p 0 ≡ 0 → 0 < i → here s i v p ≡ refused badNumber
   unfolding here
   at-zero e h = rw (front, e, groups-last (9 - i) p 0 (drop (p + 1) s) (omega arith) (λ z. omega arith)) (on-zero i v (p + 1) h)
 

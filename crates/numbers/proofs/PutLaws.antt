@@ -15,6 +15,7 @@ use lib.Seq.{sets, length-sets, drop-cons}
 use lib.Dec.{leb}
 use borrow.Author.Tests.{le-leb, lt-leb, leb-true, leb-false, not-true, not-false}
 use Rattle.numbers.specs.Put.{placed, refused, putAnswer, putBytes}
+use Rattle.numbers.specs.Refusals.{noRoom}
 
 -- what `has_room` said, as a test of the caller's code gives it
 module _ (len at need : ℕ) {r : Bool} (e : r ≡ leb (at + need) len) where
@@ -25,7 +26,7 @@ module _ (len at need : ℕ) {r : Bool} (e : r ≡ leb (at + need) len) where
   space t = leb-true (at + need) len (sym e ∙ not-false r t)
 
 module _ (out : List ℕ) (at : ℕ) (bs : List ℕ) where
-  pub no-room : length out < at + length bs → (refused 13 ≡ putAnswer out at bs) × (out ≡ putBytes out at bs)
+  pub no-room : length out < at + length bs → (refused noRoom ≡ putAnswer out at bs) × (out ≡ putBytes out at bs)
   unfolding putAnswer putBytes
   no-room h = (simp (lt-leb (at + length bs) (length out) h), simp (lt-leb (at + length bs) (length out) h))
 

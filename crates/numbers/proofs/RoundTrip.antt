@@ -3,9 +3,9 @@
 --     only-shortest     over the number of groups: bytes that read as a number start with its shortest form
 --     round-trip, read-written, one-form     the same of a whole tape
 use mathlib.Core.Path.{_≡_, refl, sym, ap, _∙_}
-use mathlib.Core.Logic.{⊎-elim, _⊎_}
+use mathlib.Core.Logic.{⊎-elim}
 use mathlib.Core.List.{List, [], _∷_, _++_, append-assoc}
-use Prim.Native.Nat.{ℕ, zero, suc, _+_, _*_, _-_, _/_, _%_, _^_, _≤_, _<_}
+use Prim.Native.Nat.{ℕ, zero, suc, _+_, _*_, _/_, _%_, _^_, _≤_, _<_}
 use native.Mathlib.Omega.{arith}
 use lib.ListN.{length, getD, drop, take}
 use lib.Seq.{sets-eq, drop-append-seam, length-take-le, getD-drop}
@@ -19,7 +19,7 @@ use Rattle.numbers.proofs.PutLaws.{room}
 use Rattle.numbers.proofs.WriteLaws.{shortest-last, shortest-suc}
 
 -- k groups after the first hold seven bits each, and the tenth of all one bit
-wide : (k n : ℕ) → n < 2 ^ (7 * suc k + 1) → n / 128 < 2 ^ (7 * k + 1)
+pub wide : (k n : ℕ) → n < 2 ^ (7 * suc k + 1) → n / 128 < 2 ^ (7 * k + 1)
 wide k n h = let e : 7 * suc k + 1 ≡ 7 * k + 1 + 7 = omega arith in shr-lt (7 * k + 1) 7 (rw e at h)
 
 -- what reading the shortest form says

@@ -1,9 +1,8 @@
 -- What an answer shows settles it: any two answers that meet one promise are equal.
 use mathlib.Core.Path.{_≡_, refl, sym, ap, _∙_}
-use mathlib.Core.List.{[], _∷_}
 use Prim.Native.Nat.{ℕ, _-_}
 use lib.ListN.{getD}
-use Rattle.numbers.specs.Refusals.{refusalNumber}
+use Rattle.numbers.specs.Refusals.{refusalNumber, allRefusals}
 use Rattle.numbers.specs.Shown.{readShown, spanShown, wroteShown}
 use Rattle.numbers.specs.declared.refusal.Refusal.{Refusal}
 use Rattle.numbers.specs.declared.refusal.Refusal.the-variants.{Cut, BadNumber, OutOfRange, BadName, TooMany, Trailing, UnknownId, AlreadyAnswered, WrongType, StaleRefresh, EchNotSent, AlreadyEnded, NoRoom}
@@ -16,8 +15,7 @@ use Rattle.numbers.specs.declared.put.Wrote.the-variants as wrotes
 
 -- the refusal of a number: every one is found again by its number
 byNumber : ℕ → Refusal
-byNumber n =
-    getD (Cut ∷ BadNumber ∷ OutOfRange ∷ BadName ∷ TooMany ∷ Trailing ∷ UnknownId ∷ AlreadyAnswered ∷ WrongType ∷ StaleRefresh ∷ EchNotSent ∷ AlreadyEnded ∷ NoRoom ∷ []) (n - 1) Cut
+byNumber n = getD allRefusals (n - 1) Cut
 
 found : (e : Refusal) → byNumber (refusalNumber e) ≡ e
 unfolding byNumber

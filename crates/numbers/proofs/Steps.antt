@@ -17,6 +17,7 @@ use borrow.Author.Tests.{le-leb, lt-leb, eq-eqb, ne-eqb}
 use Rattle.numbers.specs.Got.{Got, got, refused, andThen}
 use Rattle.numbers.specs.Fields.{atMost, bytesAt, nameLength, named, spanBytes}
 use Rattle.numbers.specs.Names.{nameOk}
+use Rattle.numbers.specs.Refusals.{cut, badName, tooMany}
 use Rattle.numbers.specs.Shown.{spanShown}
 use Rattle.numbers.specs.declared.field.Span.{Span}
 use Rattle.numbers.specs.declared.field.SpanRead as read
@@ -38,21 +39,21 @@ module _ {r : Got ℕ} (limit n v next : ℕ) (e : got v next ≡ r) where
   unfolding atMost
   over h = simp (lt-leb v limit h) at (went-on (λ x y. cond (leb x limit) (got x y) (refused n)) v next e)
 
-module _ (r : Got ℕ) (limit v next : ℕ) (e : got v next ≡ atMost limit 5 r) where
-  pub no-length : v ≡ 0 → refused 4 ≡ nameLength limit r
+module _ (r : Got ℕ) (limit v next : ℕ) (e : got v next ≡ atMost limit tooMany r) where
+  pub no-length : v ≡ 0 → refused badName ≡ nameLength limit r
   unfolding nameLength
-  no-length h = simp (eq-eqb v 0 h) at (went-on (λ x y. cond (eqb x 0) (refused 4) (got x y)) v next e)
+  no-length h = simp (eq-eqb v 0 h) at (went-on (λ x y. cond (eqb x 0) (refused badName) (got x y)) v next e)
 
   pub some-length : (v ≡ 0 → ⊥) → got v next ≡ nameLength limit r
   unfolding nameLength
-  some-length h = simp (ne-eqb v 0 h) at (went-on (λ x y. cond (eqb x 0) (refused 4) (got x y)) v next e)
+  some-length h = simp (ne-eqb v 0 h) at (went-on (λ x y. cond (eqb x 0) (refused badName) (got x y)) v next e)
 
 module _ (s : List ℕ) (n p : ℕ) where
   pub whole : p + n ≤ length s → got (record { start = p; len = n }) (p + n) ≡ bytesAt s n p
   unfolding bytesAt
   whole h = simp (le-leb (p + n) (length s) h)
 
-  pub short : length s < p + n → refused 1 ≡ bytesAt s n p
+  pub short : length s < p + n → refused cut ≡ bytesAt s n p
   unfolding bytesAt
   short h = simp (lt-leb (p + n) (length s) h)
 
@@ -83,9 +84,9 @@ module _ (s : List ℕ) (n p : ℕ) {r : read.SpanRead} {b : Span} {next : ℕ} 
   unfolding named
   is-name h i =
       rw (found .span, found .after)
-      (simp (named-by h i) at (went-on (λ b next. cond (nameOk (spanBytes s b)) (got b next) (refused 4)) (record { start = p; len = n }) (p + n) (whole s n p (found .inside))))
+      (simp (named-by h i) at (went-on (λ b next. cond (nameOk (spanBytes s b)) (got b next) (refused badName)) (record { start = p; len = n }) (p + n) (whole s n p (found .inside))))
 
-  pub no-name : {t : Bool} → t ≡ nameOk (take (next - p) (drop p s)) → t ≡ false → refused 4 ≡ named s n p
+  pub no-name : {t : Bool} → t ≡ nameOk (take (next - p) (drop p s)) → t ≡ false → refused badName ≡ named s n p
   unfolding named
   no-name h i =
-      simp (named-by h i) at (went-on (λ b next. cond (nameOk (spanBytes s b)) (got b next) (refused 4)) (record { start = p; len = n }) (p + n) (whole s n p (found .inside)))
+      simp (named-by h i) at (went-on (λ b next. cond (nameOk (spanBytes s b)) (got b next) (refused badName)) (record { start = p; len = n }) (p + n) (whole s n p (found .inside)))

@@ -1,4 +1,5 @@
 pub mod Fields
+pub mod Forms
 pub mod Got
 pub mod Names
 pub mod Numbers

@@ -1,17 +1,17 @@
--- Names (document 01, "Sizes"): letters, digits, `-`, `_` and `.`; labels of 1 to 63 bytes; one trailing dot is allowed; the last
--- label isn't all digits.
+-- Names, rules S.1 and S.5 (document 01, "Sizes"). Without one dot at its end, a name is split at its dots into labels; each is of 1 to 63
+-- letters, digits, `-` or `_`, and the last has a byte that is no digit.
 use Prim.Native.Nat.{ℕ}
 use mathlib.Core.Bool.{Bool, true, _&&_, _||_, not, cond}
 use mathlib.Core.List.{List, [], _∷_}
 use lib.ListN.{length}
 use lib.Dec.{leb, eqb}
 
--- "name 1 to 253 bytes, origin name at most 239": the limits under which a name is read
-abbrev pub nameLimit : ℕ
-nameLimit = 253
+-- the longest name, and the longest of an origin: before that one, the prefix of its HTTPS name still fits
+abbrev pub longestName : ℕ
+longestName = 253
 
-abbrev pub originLimit : ℕ
-originLimit = 239
+abbrev pub longestOrigin : ℕ
+longestOrigin = 239
 
 -- every member passes the test
 unfoldable pub every : {A : Type 0} → (A → Bool) → List A → Bool

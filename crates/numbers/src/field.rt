@@ -3,7 +3,7 @@ ghost use mathlib.Core.Path.{_≡_};
 ghost use Prim.Native.Nat.{_-_, _≤_};
 ghost use lib.ListN.{length, take, drop};
 ghost use Rattle.numbers.specs.Fields.{atMost, bytesAt, nameLength, named, nameAt};
-ghost use Rattle.numbers.specs.Names.{nameOk};
+ghost use Rattle.numbers.specs.Names.{nameOk, longestName, longestOrigin};
 ghost use Rattle.numbers.specs.Numbers.{readNumber};
 ghost use Rattle.numbers.specs.Refusals.{refusalNumber};
 ghost use Rattle.numbers.specs.Shown.{readShown, spanShown};
@@ -13,10 +13,10 @@ use super::number::read_number;
 use super::put::has_room;
 use super::refusal::Refusal;
 
-// The longest name, and the longest origin name: the prefix of its HTTPS name, `_65535._https.`, adds 14.
-pub const NAME_LIMIT: u64 = 253;
+const LONGEST_NAME: u64 = 253;
 
-pub const ORIGIN_LIMIT: u64 = 239;
+// Its HTTPS name has up to 14 bytes more in front: `_65535._https.`.
+const LONGEST_ORIGIN: u64 = 239;
 
 // Some bytes of the input: where they start and how many they are.
 pub struct Span {
@@ -107,7 +107,7 @@ fn read_named(s: &[u8], start: usize, len: usize) -> SpanRead
 }
 
 // A name: its length, at most the limit, then its bytes.
-pub fn read_name(s: &[u8], at: usize, limit: u64) -> SpanRead
+fn read_name_within(s: &[u8], at: usize, limit: u64) -> SpanRead
     ensures { λ r. ⌜ spanShown r ≡ nameAt (now (s .entry)) limit at ⌝ }
 {
     let r = read_name_length(s, at, limit);
@@ -118,4 +118,18 @@ pub fn read_name(s: &[u8], at: usize, limit: u64) -> SpanRead
             read_named(s, start, len)
         }
     }
+}
+
+// Any name but the origin's.
+pub fn read_name(s: &[u8], at: usize) -> SpanRead
+    ensures { λ r. ⌜ spanShown r ≡ nameAt (now (s .entry)) longestName at ⌝ }
+{
+    read_name_within(s, at, LONGEST_NAME)
+}
+
+// The origin's name.
+pub fn read_origin(s: &[u8], at: usize) -> SpanRead
+    ensures { λ r. ⌜ spanShown r ≡ nameAt (now (s .entry)) longestOrigin at ⌝ }
+{
+    read_name_within(s, at, LONGEST_ORIGIN)
 }

@@ -1,4 +1,4 @@
-// Numbers on a tape: low seven bits first, the eighth bit set when another group follows.
+// Numbers on a tape: groups of seven bits, the lowest first; the eighth bit of a byte says that another follows.
 ghost use mathlib.Core.Path.{_≡_};
 ghost use Prim.Native.Nat.{_+_, _*_, _%_, _^_, _<_};
 ghost use lib.ListN.{length};

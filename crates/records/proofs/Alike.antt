@@ -8,15 +8,15 @@ use native.Mathlib.Omega.{arith}
 use lib.Dec.{eqb}
 use borrow.Author.Tests.{eqb-true, eq-eqb}
 use Rattle.records.specs.Numbers.{rankNumber}
-use Rattle.records.specs.Names.{hostAt, echAt}
+use Rattle.records.specs.Names.{hostAt, echBytesAt}
 use Rattle.records.specs.Endpoints.{ShownTarget, four, six, host, Shown, shownTarget, shownEch, shown, sameTarget, sameEch, sameShown, sameEndpoint, sameNumbers, sameSealed, sameHead, sameHosts, sameEchs}
-use Rattle.records.specs.declared.Names.{Names}
-use Rattle.records.specs.declared.Echs.{Echs}
-use Rattle.records.specs.declared.EchPlace.{EchPlace}
-use Rattle.records.specs.declared.EchPlace.the-variants.{Without, At}
-use Rattle.records.specs.declared.Target.{Target}
-use Rattle.records.specs.declared.Target.the-variants.{V4, V6, Named}
-use Rattle.records.specs.declared.Endpoint.{Endpoint}
+use Rattle.records.specs.declared.names.Names.{Names}
+use Rattle.records.specs.declared.names.Echs.{Echs}
+use Rattle.records.specs.declared.names.EchPlace.{EchPlace}
+use Rattle.records.specs.declared.names.EchPlace.the-variants.{Without, At}
+use Rattle.records.specs.declared.endpoints.Target.{Target}
+use Rattle.records.specs.declared.endpoints.Target.the-variants.{V4, V6, Named}
+use Rattle.records.specs.declared.endpoints.Endpoint.{Endpoint}
 use Rattle.records.proofs.Bytes.{same-refl, same-equal}
 use Rattle.records.proofs.Numbered.{one-rank}
 
@@ -62,7 +62,7 @@ pub places-hosts : (names : Names) (p : ℕ) → true ≡ sameHosts names (Named
 places-hosts names p = sym (same-refl (hostAt names p))
 
 pub places-echs : (echs : Echs) (p : ℕ) → true ≡ sameEchs echs (At p) (At p)
-places-echs echs p = sym (same-refl (echAt echs p))
+places-echs echs p = sym (same-refl (echBytesAt echs p))
 
 -- a conjunction that passes, part by part
 first : (a b : Bool) → a && b ≡ true → a ≡ true

@@ -5,13 +5,13 @@ use mathlib.Core.Bool.{cond}
 use mathlib.Core.List.{List, [], _∷_}
 use lib.Dec.{eqb}
 use lib.ListN.{getD, drop}
-use Rattle.records.specs.declared.Names.{Names}
-use Rattle.records.specs.declared.Target.{Target}
-use Rattle.records.specs.declared.Target.the-variants.{V4, V6, Named}
-use Rattle.records.specs.declared.Rank.{Rank}
-use Rattle.records.specs.declared.Rank.the-variants as rank
-use Rattle.records.specs.declared.Kind.{Kind}
-use Rattle.records.specs.declared.Kind.the-variants.{Https, Aaaa, A}
+use Rattle.records.specs.declared.names.Names.{Names}
+use Rattle.records.specs.declared.endpoints.Target.{Target}
+use Rattle.records.specs.declared.endpoints.Target.the-variants.{V4, V6, Named}
+use Rattle.records.specs.declared.endpoints.Rank.{Rank}
+use Rattle.records.specs.declared.endpoints.Rank.the-variants as rank
+use Rattle.records.specs.declared.queries.Kind.{Kind}
+use Rattle.records.specs.declared.queries.Kind.the-variants.{Https, Aaaa, A}
 use Rattle.records.specs.Numbers.{rankNumber, kindNumber, inputKind, targetNumber}
 use Rattle.records.specs.Endpoints.{ShownTarget, four, six, host, targetValues, shownTarget}
 

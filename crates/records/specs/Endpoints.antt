@@ -1,19 +1,23 @@
--- Endpoints with their bytes, and when two are the same: target, port, rank and ECH bytes.
+-- Endpoints with their bytes, and when two are the same: target, port, rank and ECH bytes. Rule 4.2 (document 01, part 4); targets: rule B.10.
 use Prim.Native.Nat.{ℕ}
 use mathlib.Core.Bool.{Bool, true, false, _&&_}
 use mathlib.Core.List.{List, [], _∷_}
 use mathlib.Core.Option.{Option, none, some}
 use lib.Dec.{eqb}
 use Rattle.records.specs.Numbers.{rankNumber}
-use Rattle.records.specs.Names.{sameBytes, hostAt, echAt}
-use Rattle.records.specs.declared.Names.{Names}
-use Rattle.records.specs.declared.Echs.{Echs}
-use Rattle.records.specs.declared.EchPlace.{EchPlace}
-use Rattle.records.specs.declared.EchPlace.the-variants.{Without, At}
-use Rattle.records.specs.declared.Rank.{Rank}
-use Rattle.records.specs.declared.Target.{Target}
-use Rattle.records.specs.declared.Target.the-variants.{V4, V6, Named}
-use Rattle.records.specs.declared.Endpoint.{Endpoint}
+use Rattle.records.specs.Names.{sameBytes, hostAt, echBytesAt}
+use Rattle.records.specs.declared.names.Names.{Names}
+use Rattle.records.specs.declared.names.Echs.{Echs}
+use Rattle.records.specs.declared.names.EchPlace.{EchPlace}
+use Rattle.records.specs.declared.names.EchPlace.the-variants.{Without, At}
+use Rattle.records.specs.declared.endpoints.Rank.{Rank}
+use Rattle.records.specs.declared.endpoints.Rank.the-variants as rank
+use Rattle.records.specs.declared.endpoints.Target.{Target}
+use Rattle.records.specs.declared.endpoints.Target.the-variants.{V4, V6, Named}
+use Rattle.records.specs.declared.endpoints.Endpoint.{Endpoint}
+
+abbrev pub noEndpoint : Endpoint
+noEndpoint = record { target = V4 0; port = 0; rank = rank.H3; ech = Without }
 
 -- a target with its values: an address, an address in two halves with its scope, or the bytes of a host
 pub data ShownTarget : Type 0 where
@@ -28,7 +32,7 @@ pub record Shown : Type 0 where
   pub rank : Rank
   pub ech : Option (List ℕ)
 
--- its number and values in an answer: "0, 4 bytes, port; or 1, 16 bytes, scope, port; or 2, length, name, port"
+-- its number and values in an answer; a host's bytes have their length before them there
 abbrev pub targetValues : ShownTarget → List ℕ
 targetValues (four a) = 0 ∷ a ∷ []
 targetValues (six h l s) = 1 ∷ h ∷ l ∷ s ∷ []
@@ -41,10 +45,20 @@ shownTarget names (Named p) = host (hostAt names p)
 
 abbrev pub shownEch : Echs → EchPlace → Option (List ℕ)
 shownEch echs Without = none
-shownEch echs (At p) = some (echAt echs p)
+shownEch echs (At p) = some (echBytesAt echs p)
 
 abbrev pub shown : Names → Echs → Endpoint → Shown
 shown names echs e = record { target = shownTarget names (e .target); port = e .port; rank = e .rank; ech = shownEch echs (e .ech) }
+
+-- whether an endpoint names a place of the two tables
+abbrev pub namesPlace : Target → ℕ → Bool
+namesPlace (V4 a) p = false
+namesPlace (V6 h l s) p = false
+namesPlace (Named q) p = eqb q p
+
+abbrev pub sealsPlace : EchPlace → ℕ → Bool
+sealsPlace Without p = false
+sealsPlace (At q) p = eqb q p
 
 abbrev pub sameTarget : ShownTarget → ShownTarget → Bool
 sameTarget (four a) (four b) = eqb a b
@@ -100,6 +114,6 @@ sameHosts names (V4 a) t = true
 sameHosts names (V6 h l s) t = true
 
 abbrev pub sameEchs : Echs → EchPlace → EchPlace → Bool
-sameEchs echs (At p) (At q) = sameBytes (echAt echs p) (echAt echs q)
+sameEchs echs (At p) (At q) = sameBytes (echBytesAt echs p) (echBytesAt echs q)
 sameEchs echs (At p) Without = true
 sameEchs echs Without e = true

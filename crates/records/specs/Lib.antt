@@ -1,4 +1,9 @@
+pub mod Lists
 pub mod Numbers
 pub mod Names
+pub mod Classes
+pub mod Rules
+pub mod Queries
+pub mod Services
 pub mod Endpoints
 pub mod References

@@ -1,11 +1,11 @@
--- Document 01's numbers for what an answer shows.
+-- Document 01's numbers for what an answer shows: rules B.5, B.10 and B.11.
 use Prim.Native.Nat.{ℕ}
-use Rattle.records.specs.declared.Rank.{Rank}
-use Rattle.records.specs.declared.Rank.the-variants as rank
-use Rattle.records.specs.declared.Kind.{Kind}
-use Rattle.records.specs.declared.Kind.the-variants.{Https, Aaaa, A}
-use Rattle.records.specs.declared.Target.{Target}
-use Rattle.records.specs.declared.Target.the-variants.{V4, V6, Named}
+use Rattle.records.specs.declared.endpoints.Rank.{Rank}
+use Rattle.records.specs.declared.endpoints.Rank.the-variants as rank
+use Rattle.records.specs.declared.queries.Kind.{Kind}
+use Rattle.records.specs.declared.queries.Kind.the-variants.{Https, Aaaa, A}
+use Rattle.records.specs.declared.endpoints.Target.{Target}
+use Rattle.records.specs.declared.endpoints.Target.the-variants.{V4, V6, Named}
 
 -- "rank H3, H2OrH1, H2, H1"
 abbrev pub rankNumber : Rank → ℕ
@@ -26,7 +26,7 @@ inputKind Aaaa = 1
 inputKind A = 2
 inputKind Https = 3
 
--- "Target: 0, 4 bytes, port; or 1, 16 bytes, scope, port; or 2, length, name, port"
+-- a target's case in an answer: 0 an IPv4 address, 1 an IPv6 address, 2 a name
 abbrev pub targetNumber : Target → ℕ
 targetNumber (V4 a) = 0
 targetNumber (V6 h l s) = 1

@@ -1,6 +1,6 @@
 //! Histories, and the bytes of document 01 for them.
 
-/// Appends a number: low seven bits first, the eighth bit set when another group follows.
+/// Appends a number in its form of rule N.1.
 pub fn number(out: &mut Vec<u8>, mut n: u64) {
     while n >= 128 {
         out.push((n % 128) as u8 + 128);

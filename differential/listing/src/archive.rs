@@ -4,8 +4,7 @@
 /// place, scope, port, rank, ECH place and 1 (0 none).
 const ENDPOINT: usize = 7;
 /// Endpoints in the longest listing.
-#[cfg(archive)]
-const MOST: usize = 272;
+pub const MOST: usize = 272;
 
 /// An endpoint as the test entry writes it.
 pub type Numbered = [u64; ENDPOINT];
@@ -21,6 +20,13 @@ mod entry {
             out: *mut u64,
             room: usize,
         ) -> usize;
+        pub fn list_rounds(
+            state: *const u64,
+            numbers: usize,
+            names: *const u8,
+            bytes: usize,
+            rounds: usize,
+        ) -> u64;
     }
 }
 
@@ -49,5 +55,22 @@ pub fn list_state(state: &[u64], names: &[u8]) -> Option<Vec<Numbered>> {
 
 #[cfg(not(archive))]
 pub fn list_state(_: &[u64], _: &[u8]) -> Option<Vec<Numbered>> {
+    None
+}
+
+/// A flat state listed so many times, from that port of the origin down to 1: the sum of each
+/// listing's length and of the port at the place that is the origin's modulo `MOST`, 0 beyond the
+/// listing. None without the archive.
+#[cfg(archive)]
+pub fn list_rounds(state: &[u64], names: &[u8], rounds: usize) -> Option<u64> {
+    // Two slices, each with its own length.
+    let sum = unsafe {
+        entry::list_rounds(state.as_ptr(), state.len(), names.as_ptr(), names.len(), rounds)
+    };
+    Some(sum)
+}
+
+#[cfg(not(archive))]
+pub fn list_rounds(_: &[u64], _: &[u8], _: usize) -> Option<u64> {
     None
 }

@@ -11,7 +11,7 @@ mod shares;
 mod slips;
 mod words;
 
-pub use archive::THERE;
-pub use decode::Listing;
+pub use archive::{list_rounds, list_state, MOST, THERE};
+pub use decode::{in_bytes, Listing};
 pub use drive::{player, Choice};
 pub use look::Listings;

@@ -13,7 +13,8 @@ pub fn waiting() -> Vec<u8> {
     numbers(&[0])
 }
 
-/// "1 query (id, type 0 HTTPS 1 AAAA 2 A, allow_stale, length, name)"
+/// "1 query": id, type, whether a stale answer will do, name (rules B.9 and
+/// B.11).
 pub fn query(id: u64, kind: Type, allow_stale: bool, name: &[u8]) -> Vec<u8> {
     let kind = match kind {
         Type::Https => 0,
@@ -74,8 +75,7 @@ pub fn endpoint(endpoint: &Endpoint) -> Vec<u8> {
     bytes
 }
 
-/// "Target: 0, 4 bytes, port; or 1, 16 bytes, scope, port; or 2, length, name,
-/// port. Ports here are plain".
+/// Rule B.10: the target's case and values, with a plain port.
 fn target(target: &Target, port: u64) -> Vec<u8> {
     match target {
         Target::Address(Address::V4(bytes)) => around(&[0], bytes, &[port]),

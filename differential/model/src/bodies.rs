@@ -226,8 +226,7 @@ impl<'a> Reader<'a> {
         (0..count).map(|_| item(self)).collect()
     }
 
-    /// "alternative services: count, each host (0 to 2 as above, 3 none), port
-    /// (0 or port+1), version 0 to 2 (H3, H2, H1)"
+    /// One alternative service of a configuration (rule B.8).
     fn alternative(&mut self) -> Result<Alternative, u8> {
         Ok(Alternative {
             host: self.host(MOST_ALTERNATIVE_HOST, NAME_BYTES)?,
@@ -236,8 +235,7 @@ impl<'a> Reader<'a> {
         })
     }
 
-    /// "HTTPS item: priority; name length, name; versions; port; ECH; v4 hint
-    /// count, 4 bytes each; v6 hint count, 16 bytes each"
+    /// "HTTPS item" (rule B.6), field by field.
     fn service(&mut self) -> Result<Service, u8> {
         Ok(Service {
             priority: self.ranged(0, MOST_PRIORITY)? as u16,
@@ -250,8 +248,7 @@ impl<'a> Reader<'a> {
         })
     }
 
-    /// "flags 0 to 3 (bit 0 stale, bit 1 failed; if failed nothing follows),
-    /// count, items"
+    /// Flags, and unless the answer failed its count and items (rule B.5).
     fn answer(&mut self, kind: Type) -> Result<(bool, Answer), u8> {
         let flags = self.ranged(0, MOST_ANSWER_FLAGS)?;
         let stale = flags & 1 != 0;
@@ -272,8 +269,7 @@ impl<'a> Reader<'a> {
         Ok(self.bytes(length)?.into())
     }
 
-    /// "Input bodies: kind, id, then: 1 AAAA, 2 A, 3 HTTPS ... 4 success, 5
-    /// failure: nothing more. 6 ECH retry": what follows the kind.
+    /// What follows the kind of an input (rule B.5).
     fn input(&mut self, kind: u64) -> Result<Input, u8> {
         let id = self.number()?;
         let input = match kind {
@@ -348,8 +344,8 @@ fn mode(number: u64) -> Mode {
     }
 }
 
-/// A tape's body, or its refusal 1 to 6. "Body 7 alone, without id, on a tape
-/// only, calls for output."
+/// A tape's body, or its refusal 1 to 6. Kind 7, which only a tape has, is a call
+/// (rule B.7).
 pub fn event(body: &[u8]) -> Result<Event, u8> {
     let mut r = Reader::new(body);
     match r.ranged(1, 7)? {

@@ -1,7 +1,5 @@
-//! Document 01, part 7: an input whose body is sound. "Then 7; a first answer
-//! tests 8, 9; a refresh 9, 10; an attempt 12, 11, but any result for a
-//! cancelled attempt is accepted and ignored." "A refusal 1 to 12 changes
-//! nothing in the machine".
+//! Document 01, part 7: an input whose body is sound. What is tested, and in
+//! which order, is rule R.2; that a refusal leaves the machine alone, rule R.3.
 
 use crate::bodies::{Input, Outcome, Type};
 use crate::refusals::*;
@@ -17,8 +15,8 @@ pub fn take(m: &mut State, now: u64, input: Input) -> u8 {
     }
 }
 
-/// "UnknownId: kinds 1 to 3: no query has that id, as its own or as a refresh in
-/// flight".
+/// An id that is neither a record's own nor that of a refresh in flight is
+/// unknown.
 fn take_answer(m: &mut State, id: u64, kind: Type, held: Held) -> u8 {
     let flying = Refresh::InFlight(id);
     if let Some(place) = m.queries.iter().position(|query| query.refresh == flying) {
@@ -87,7 +85,7 @@ fn end(m: &mut State, place: usize, outcome: Outcome) -> u8 {
                 return ECH_NOT_SENT;
             }
             attempt.stage = Stage::Failed;
-            // "An ECH retry on an attempt that is itself one only marks it failed."
+            // Rule 7.4: a retry of a retry is marked failed, and that is all.
             if !attempt.retry {
                 m.retries.push((place, ech));
             }

@@ -1,8 +1,8 @@
 //! Document 01 in plain Rust, std only: numbers, names, bodies, refusals and
 //! their order, sizes, Full, the machine, replay, tape check, attempt delay.
 //!
-//! Each module stands beside a part of the document, each rule under the
-//! sentence it follows. House rules, marked (H), are as the Rust corrects them;
+//! Each module stands beside a part of the document, each rule under a few
+//! words of it or its number in docs/RULES.md. House rules, marked (H), are as the Rust corrects them;
 //! `within_delay` and `failed` are as the document has them. Each rule is a line
 //! of its own, so that a reader can point at it and a test can spoil it.
 
@@ -81,9 +81,7 @@ pub struct View {
     pub listed: usize,
     /// Listed endpoints that weren't attempted.
     pub untried: usize,
-    /// Demand 3's last sentence speaks of this machine: the origin is an
-    /// address, the mode is Name, the mode is NameWithHttpsRr with HTTPS
-    /// answered, or a held A or AAAA answer carries an address.
+    /// Rule D.3 (d) speaks of this machine.
     pub covered: bool,
 }
 

@@ -27,8 +27,8 @@ pub fn endpoints(m: &State) -> Vec<Endpoint> {
     listed
 }
 
-/// Part 3: "The result is a permutation, strictly rising by (place in group,
-/// rank, family)."
+/// Part 3, by rule 3.3: the only order that rises by place in group, rank and
+/// family.
 fn interleaved(endpoints: Vec<Endpoint>, prefer_v6: bool) -> Vec<Endpoint> {
     let mut counts = [0; 8];
     let mut keyed = Vec::new();
@@ -122,7 +122,7 @@ fn of_service(m: &State, service: &Service) -> Vec<Endpoint> {
         // "in `NameWithHttpsRr` with a named origin": the target without its dot.
         targets.push(connect_name(&service.name));
     } else {
-        // "for each family the answer held for its name, even empty or failed"
+        // "the answer held for its name, even empty or failed"
         targets.extend(addresses_of(m, &service.name));
         // Corrected by the Rust: always, after the answers, "the hints if the
         // family is allowed".
@@ -156,8 +156,7 @@ fn of_alternatives(m: &State) -> Vec<Endpoint> {
 
 fn alternative_targets(m: &State, alternative: &Alternative) -> Vec<Target> {
     match &alternative.host {
-        // "the origin's without host"; (H) "By name, an alternative service
-        // without host takes the origin's name".
+        // "the origin's without host"; (H) by name it has the origin's name.
         None => origin_targets(m),
         // By name its own host, without its dot as the Rust has it.
         Some(Host::Name(name)) if by_name(m) => vec![connect_name(name)],
@@ -183,14 +182,13 @@ fn of_origin(m: &State) -> Vec<Endpoint> {
 fn origin_targets(m: &State) -> Vec<Target> {
     match &m.configuration.origin {
         Host::Literal(address) => vec![Target::Address(*address)],
-        // "In by-name endpoints only, the origin's name loses its trailing dot"
+        // "the origin's name loses its trailing dot"
         Host::Name(name) if by_name(m) => vec![connect_name(name)],
         Host::Name(name) => addresses_of(m, name).collect(),
     }
 }
 
-/// (H) "A host's addresses come from held answers for exactly that name, in
-/// record order."
+/// Rule 4.11, (H): the addresses held for just that name, "in record order".
 fn addresses_of<'a>(m: &'a State, name: &'a Bytes) -> impl Iterator<Item = Target> + 'a {
     let own = m.held().filter(move |(query, _)| same_name(&query.name, name));
     own.flat_map(|(_, held)| State::addresses(held)).map(|address| Target::Address(*address))

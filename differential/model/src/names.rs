@@ -29,7 +29,8 @@ pub fn without_dot(name: &[u8]) -> &[u8] {
     name.strip_suffix(b".").unwrap_or(name)
 }
 
-/// (H) "HTTPS name: the origin at port 443, else `_PORT._https.` before it".
+/// (H) The HTTPS name: the origin's, with a prefix unless the port is 443 (rule
+/// 5.3).
 pub fn https_name(origin: &[u8], port: u16) -> Vec<u8> {
     if port == 443 {
         return origin.to_vec();

@@ -3,11 +3,8 @@
 
 use crate::refusals::{BAD_NUMBER, CUT};
 
-/// The number that starts at `at`, and the place after it; else 1 or 2.
-///
-/// "Every number on a tape is written low seven bits first, the eighth bit set
-/// when another group follows; only the shortest form, at most 64 bits; a tenth
-/// byte above 1 is BadNumber, whatever follows."
+/// The number that starts at `at`, and the place after it; else 1 or 2: rules
+/// N.1 to N.3.
 pub fn read_number(s: &[u8], at: usize) -> Result<(u64, usize), u8> {
     let mut value = 0;
     let mut group = 0;

@@ -29,9 +29,7 @@ pub enum Wish {
     Waiting,
 }
 
-/// "Order as `process_output_inner`: cancel in list order, then Succeeded on
-/// every call; ECH retry; attempt; queries; timer; Failed. ... Otherwise
-/// Waiting".
+/// Rule 6.1: the first of these that applies.
 pub fn wish(m: &State, now: u64) -> Wish {
     None.or_else(|| end_of_race(m))
         .or_else(|| ech_retry(m))
@@ -116,8 +114,8 @@ fn timer(delay: u64, elapsed: u64) -> Option<Wish> {
     (left > 0).then_some(Wish::Timer(left))
 }
 
-/// (H) "Failed exactly if no query, refresh or attempt is unanswered: connection
-/// if any attempt was made, else DNS."
+/// Rule 6.7, (H): nothing is left unanswered; the reason is whether an attempt
+/// was ever made.
 fn failed(m: &State) -> Option<Wish> {
     let queries = m.unanswered_queries();
     let refreshes = m.refreshes_in_flight();
@@ -128,8 +126,7 @@ fn failed(m: &State) -> Option<Wish> {
     Some(Wish::Failed(u64::from(!m.attempts.is_empty())))
 }
 
-/// The answer's bytes. "Full stands where a query or attempt would have been,
-/// and changes nothing."
+/// The answer's bytes. Rule 6.9: Full takes the place of what has no room.
 pub fn grant(m: &mut State, now: u64, wish: Wish) -> Vec<u8> {
     match wish {
         Wish::Waiting => answers::waiting(),

@@ -9,8 +9,7 @@ use crate::refusals::{ACCEPTED, CUT, NO_ROOM, OUT_OF_RANGE};
 use crate::sizes::BODY_BYTES;
 use crate::state::State;
 
-/// "Replay returns status, place, bytes written, and it reports how many calls
-/// it answered."
+/// Rule 8.2: the four numbers.
 #[derive(Clone, Copy, PartialEq, Eq, Debug)]
 pub struct Replayed {
     pub status: u8,
@@ -48,8 +47,7 @@ pub fn replay(tape: &[u8], out: &mut [u8]) -> Replayed {
     done
 }
 
-/// "It stops only for a refused configuration, a framing fault (1, 2, 3) or 13.
-/// The place is the stopped record's first byte, or the tape's length."
+/// Rule 8.3: where it stops, and at which place.
 fn run(tape: &[u8], out: &mut [u8], done: &mut Replayed) -> Result<(), u8> {
     let (body, mut at) = frame(tape, 0)?;
     let mut m = State::new(configuration(body)?);
@@ -69,8 +67,8 @@ fn run(tape: &[u8], out: &mut [u8], done: &mut Replayed) -> Result<(), u8> {
     Ok(())
 }
 
-/// The answer to an event, and whether it was a call. "A body refused inside a
-/// sound frame is answered with 8 and replay goes on; it isn't a call."
+/// The answer to an event, and whether it was a call. Rule 8.4: a refused body
+/// in a sound frame is answered too, and is none.
 fn answered(m: &mut State, moment: u64, body: &[u8]) -> (Vec<u8>, bool) {
     match event(body) {
         Ok(Event::Call) => {
@@ -82,7 +80,7 @@ fn answered(m: &mut State, moment: u64, body: &[u8]) -> (Vec<u8>, bool) {
     }
 }
 
-/// "tape check (the first framing or 1 to 6 fault, else 0)"
+/// Rule 8.7: the first fault of a frame or a body, or 0.
 pub fn tape_check(tape: &[u8]) -> u8 {
     checked(tape).err().unwrap_or(ACCEPTED)
 }

@@ -69,7 +69,7 @@ fn preferred_type(m: &State) -> Type {
     Type::A
 }
 
-/// (H) "A preferred hint is a non-empty hint list of the preferred family."
+/// (H) Some service has a hint of the preferred family (rule 5.6).
 fn preferred_hint(m: &State) -> bool {
     m.services().any(|service| match prefers_v6(m) {
         true => !service.v6_hints.is_empty(),

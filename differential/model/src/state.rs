@@ -137,8 +137,7 @@ impl State {
         self.configuration.ech && self.services().any(|service| service.ech.is_some())
     }
 
-    /// The services that count: "skip those without ECH if ECH is on and any
-    /// has it".
+    /// The services that count: if any has ECH, and ECH is on, those that have it.
     pub fn usable_services(&self) -> impl Iterator<Item = &Service> {
         let only_ech = self.any_ech();
         self.services().filter(move |service| !only_ech || service.ech.is_some())

@@ -41,7 +41,7 @@ counted : (c : tie.After-c Inv-loop μ-loop) → getD (c .before .before .before
 counted c = held-count _ _ _ _ (c .before .before .before .before .loop .inv .held) _ (omega (arith, c .before .if1 .left))
 
 cast-queues : tie.Need-cast-queues Inv-loop μ-loop
-cast-queues c = omega arith
+cast-queues c = omega (arith, c .before .if1 .left, counted c)
 
 mul-queues : tie.Need-mul-queues Inv-loop μ-loop
 mul-queues c = omega (arith, c .before .if1 .left, counted c)

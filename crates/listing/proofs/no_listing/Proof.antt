@@ -1,5 +1,6 @@
 -- `listing::no_listing` meets its contract.
-use Rattle.listing.specs.Room.{listed, padded}
+use Rattle.listing.specs.Room.{listed}
+use Rattle.records.specs.Lists.{padded}
 use borrow.Author.Needs.{needs}
 use Rattle.listing.proofs.no_listing.Statement.{statement}
 use Rattle.listing.proofs.no_listing.Tie as tie

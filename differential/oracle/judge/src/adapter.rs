@@ -91,6 +91,10 @@ impl Oracle {
         listing
     }
 
+    pub fn into_machine(self) -> HappyEyeballs {
+        self.machine
+    }
+
     fn at(&self, moment: u64) -> Instant {
         self.start + Duration::from_nanos(moment)
     }

@@ -1,6 +1,5 @@
 //! What the original does where document 01's bodies can't take it: docs/DIFFERENCES.md cites these.
 
-use crate::adapter::Oracle;
 use compare::directed::longest;
 use compare::play::ask;
 use happy_eyeballs::{
@@ -8,6 +7,7 @@ use happy_eyeballs::{
     HappyEyeballs, HttpVersion, Id, Input, NetworkConfig, Output, ResolutionMode, ServiceInfo,
     TargetName,
 };
+use judge::adapter::Oracle;
 use std::collections::{BTreeSet, HashSet};
 use std::net::Ipv4Addr;
 use std::time::Instant;

@@ -1,9 +1,9 @@
 //! The whole listing on many states: the original's `endpoints_to_attempt` against the model's,
 //! and against the proved one's where its archive is there.
 
-use crate::adapter::Oracle;
 use compare::play::{ask, play};
 use compare::rng::Rng;
+use judge::adapter::Oracle;
 use listing::{player, Choice, Listings};
 use std::time::Instant;
 

@@ -1,7 +1,5 @@
 //! The judge with the original: see differential/README.md.
 
-mod adapter;
-mod decode;
 #[cfg(test)]
 mod differences;
 mod listings;
@@ -11,6 +9,7 @@ mod store;
 
 use compare::directed::unhex;
 use compare::subject::{Model, Program, Subject};
+use judge::adapter;
 use std::io::Read;
 use std::path::Path;
 use std::process::ExitCode;

@@ -1,6 +1,5 @@
 //! Random histories inside the domain: the original against the model or a program.
 
-use crate::adapter::{Exceptions, Oracle};
 use compare::play::{ask, play, Player, Referee};
 use compare::read::{answer, Answer, Reader};
 use compare::report::disagreement;
@@ -10,6 +9,7 @@ use compare::subject::{Case, Outcome, Subject};
 use compare::tally::Tally;
 use compare::words;
 use compare::write::History;
+use judge::adapter::{Exceptions, Oracle};
 use std::time::Instant;
 
 /// Histories handed to the subject at a time.

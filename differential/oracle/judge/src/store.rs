@@ -1,6 +1,5 @@
 //! Makes the stored answers, and shows what the original says of one tape.
 
-use crate::adapter::{Made, Oracle};
 use compare::directed;
 use compare::play::{ask, play, Player, Referee, SHAPES};
 use compare::read::{frames, Frames};
@@ -9,6 +8,7 @@ use compare::rng::Rng;
 use compare::stored::{write, LIST};
 use compare::subject::{Case, Model, ROOM};
 use compare::words;
+use judge::adapter::{Made, Oracle};
 use std::fmt::Write;
 use std::path::Path;
 use std::{fs, io};

@@ -59,6 +59,13 @@ impl HappyEyeballs {
         self.endpoints_to_attempt()
     }
 
+    /// The same at another port of the origin.
+    #[must_use]
+    pub fn shown_listing_at(&mut self, port: u16) -> Vec<Endpoint> {
+        self.port = port;
+        self.endpoints_to_attempt()
+    }
+
     #[must_use]
     pub fn shown_delay(&self) -> Duration {
         self.connection_attempt_delay()

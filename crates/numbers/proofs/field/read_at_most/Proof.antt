@@ -1,5 +1,6 @@
 -- `numbers::field::read_at_most` meets its contract.
 use mathlib.Core.Path.{sym, ap, _∙_}
+use native.Mathlib.Omega.{arith}
 use Rattle.numbers.specs.Fields.{atMost}
 use Rattle.numbers.specs.Shown.{readShown}
 use Rattle.numbers.proofs.Steps.{stopped, at-most, over}
@@ -23,12 +24,12 @@ returns c = stopped _ _ (sym (ap readShown (c .before .r .given .1)) ∙ c .befo
 returns-2 : tie.Need-returns-2
 returns-2 c =
     let m = c .before .before in
-    at-most _ _ _ _ (sym (ap readShown (m .r2 .given .1)) ∙ m .before .before .read-number .ensures) (c .if1 .taken)
+    at-most _ _ _ _ (sym (ap readShown (m .r2 .given .1)) ∙ m .before .before .read-number .ensures) (omega (arith, c .if1 .taken))
 
 returns-3 : tie.Need-returns-3
 returns-3 c =
     let m = c .before .before in
-    over _ _ _ _ (sym (ap readShown (m .r2 .given .1)) ∙ m .before .before .read-number .ensures) (c .if1 .left)
+    over _ _ _ _ (sym (ap readShown (m .r2 .given .1)) ∙ m .before .before .read-number .ensures) (omega (arith, c .if1 .left))
 
 pub read-at-most-spec : {M : Type 1} → statement M
 read-at-most-spec =

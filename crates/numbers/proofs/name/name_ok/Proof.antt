@@ -64,7 +64,7 @@ name-byte-yes c = sym (c .before .name-byte .ensures) ∙ not-false _ (c .if4 .l
 returns-4 : tie.Need-returns-4 Inv-loop μ-loop
 returns-4 c =
     let t = c .before .before .before .before .before in
-    sym (too-long _ _ _ _ (t .loop-test .taken) (c .before .before .before .if1 .left) (name-byte-yes (c .before)) (c .if5 .taken)) ∙ t .before .loop .inv .0
+    sym (too-long _ _ _ _ (t .loop-test .taken) (c .before .before .before .if1 .left) (name-byte-yes (c .before)) (omega (arith, c .if5 .taken))) ∙ t .before .loop .inv .0
 
 add-run : tie.Need-add-run Inv-loop μ-loop
 add-run c = search needs

@@ -27,7 +27,7 @@ shared-slice-read-b : tie.Need-shared-slice-read-b Inv-loop μ-loop
 shared-slice-read-b c = search needs
 
 returns-2 : tie.Need-returns-2 Inv-loop μ-loop
-returns-2 c = sym (at-tenth _ _ _ _ (c .before .before .before .if1 .left) (c .before .if2 .taken) (c .if3 .taken)) ∙ c .before .before .before .before .loop .inv .0
+returns-2 c = sym (at-tenth _ _ _ _ (c .before .before .before .if1 .left) (c .before .if2 .taken) (omega (arith, c .if3 .taken))) ∙ c .before .before .before .before .loop .inv .0
 
 -- where the test of the tenth byte is past
 tenth : (c : tie.Joined2 Inv-loop μ-loop) → c .before .before .before .loop .i ≡ 9 → getD (c .before .before .before .before .before .args .s .now) (c .before .before .before .loop .p) 0 ≤ 1
@@ -43,7 +43,7 @@ add-p c = search needs
 returns-3 : tie.Need-returns-3 Inv-loop μ-loop
 returns-3 c =
     let j = c .before .before .before .before in
-    sym (at-zero _ _ _ _ (j .before .before .if1 .left) (c .before .if5 .taken) (c .if6 .taken)) ∙ j .before .before .before .loop .inv .0
+    sym (at-zero _ _ _ _ (j .before .before .if1 .left) (c .before .if5 .taken) (omega (arith, c .if6 .taken))) ∙ j .before .before .before .loop .inv .0
 
 -- a last group that is not 0, or is the only one
 last : (c : tie.Then4 Inv-loop μ-loop) → (getD (c .before .before .before .before .before .before .before .args .s .now) (c .before .before .before .before .before .loop .p) 0 ≡ 0 → c .before .before .before .before .before .loop .i ≡ 0)

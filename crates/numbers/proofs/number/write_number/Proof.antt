@@ -26,13 +26,6 @@ number-len-requires c κs = search needs
 has-room-requires : tie.Need-has-room-requires Inv-loop μ-loop
 has-room-requires c κs = search needs
 
-returns : tie.Need-returns Inv-loop μ-loop
-returns c =
-    let e = c .before .before .number-len .ensures in
-    let a = c .before .before .before .before .args in
-    let l : length (a .out .now) < a .at + c .before .before .number-len .result = no-space _ _ _ (c .before .has-room .ensures) (c .if1 .taken) in
-    no-room _ _ _ (omega arith)
-
 -- past the test there is room
 fits : (c : tie.Else1 Inv-loop μ-loop) → let a = c .before .before .before .before .args in a .at + length (numberBytes (a .n)) ≤ length (a .out .now)
 fits c =
@@ -40,6 +33,13 @@ fits c =
     let a = c .before .before .before .before .args in
     let l : a .at + c .before .before .number-len .result ≤ length (a .out .now) = space _ _ _ (c .before .has-room .ensures) (c .if1 .left) in
     omega arith
+
+returns : tie.Need-returns Inv-loop μ-loop
+returns c =
+    let e = c .before .before .number-len .ensures in
+    let a = c .before .before .before .before .args in
+    let l : length (a .out .now) < a .at + c .before .before .number-len .result = no-space _ _ _ (c .before .has-room .ensures) (c .if1 .taken) in
+    no-room _ _ _ (omega arith)
 
 loop-holds : tie.Need-loop-holds Inv-loop μ-loop
 unfolding numberBytes

@@ -19,12 +19,12 @@ abbrev μ-loop : tie.MeasureT-loop
 has-room-requires : tie.Need-has-room-requires Inv-loop μ-loop
 has-room-requires c κs = search needs
 
-returns : tie.Need-returns Inv-loop μ-loop
-returns c = no-room _ _ _ (no-space _ _ _ (c .before .has-room .ensures) (c .if1 .taken))
-
 -- past the test there is room
 fits : (c : tie.Else1 Inv-loop μ-loop) → let a = c .before .before .before .before .args in a .at + length (a .bytes .now) ≤ length (a .out .now)
 fits c = space _ _ _ (c .before .has-room .ensures) (c .if1 .left)
+
+returns : tie.Need-returns Inv-loop μ-loop
+returns c = no-room _ _ _ (no-space _ _ _ (c .before .has-room .ensures) (c .if1 .taken))
 
 loop-holds : tie.Need-loop-holds Inv-loop μ-loop
 loop-holds c = (rw add-zero refl, omega arith, refl)

@@ -17,11 +17,11 @@ abbrev μ-loop : tie.MeasureT-loop
 
 returns : tie.Need-returns Inv-loop μ-loop
 unfolding powerOf
-returns c = one-power _ _ _ (omega arith) (c .if1 .taken)
+returns c = one-power _ _ _ (omega arith) (omega (arith, c .if1 .taken))
 
 returns-2 : tie.Need-returns-2 Inv-loop μ-loop
 unfolding powerOf
-returns-2 c = past-cap _ _ (c .before .if1 .left) (c .if2 .taken)
+returns-2 c = past-cap _ _ (omega (arith, c .before .if1 .left)) (omega (arith, c .if2 .taken))
 
 loop-holds : tie.Need-loop-holds Inv-loop μ-loop
 loop-holds c = (one-mul _, search needs)

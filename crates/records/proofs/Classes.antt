@@ -1,0 +1,223 @@
+-- Two places are of one class exactly if they are the same, for any equivalence of places; how the classes of a table are found.
+use Prim.Native.Nat.{ℕ, zero, suc, _+_, _≤_, _<_}
+use mathlib.Core.Path.{_≡_, refl, sym, ap, _∙_}
+use mathlib.Core.Bool.{Bool, true, false, cond}
+use mathlib.Core.List.{List, [], _∷_}
+use native.Mathlib.Omega.{arith}
+use native.Mathlib.Decide.{decLt}
+use lib.Dec.{eqb}
+use lib.ListN.{length, getD, set, length-set}
+use lib.Seq.{getD-set-same, getD-set-other, ext-getD}
+use borrow.Author.Tests.{eq-eqb, eqb-true, lt-ltb, le-ltb}
+use Rattle.records.specs.Names.{nameBytes, nameBytesAt, nameAt, noName, blankName, sameName, sameAt}
+use Rattle.records.specs.Classes.{firstFrom, classOf, classesFrom, sameNames, classAt, sameClass}
+use Rattle.records.specs.declared.names.Names.{Names}
+use Rattle.records.proofs.Bytes.{other-length}
+use Rattle.records.proofs.SameName.{Equivalence, same-name, same-places}
+
+-- the first that passes is q places on, if none before it does
+first-at : (test : ℕ → Bool) (i n q : ℕ) → q < n → ((k : ℕ) → k < q → test (i + k) ≡ false) → test (i + q) ≡ true → i + q ≡ firstFrom test i n
+unfolding firstFrom
+first-at test i zero q l f t = absurd (omega arith)
+first-at test i (suc n) zero l f t =
+    let z : i + 0 ≡ i = omega arith in
+    let e : true ≡ test i = sym t ∙ ap test z in
+    z ∙ ap (λ b. cond b i (firstFrom test (i + 1) n)) e
+first-at test i (suc n) (suc q) l f t =
+    let z : i + 0 ≡ i = omega arith in
+    let e : false ≡ test i = sym (f 0 (omega arith)) ∙ ap test z in
+    let w : i + 1 + q ≡ i + suc q = omega arith in
+    sym w ∙ (first-at test (i + 1) n q (omega arith) later (ap test w ∙ t) ∙ ap (λ b. cond b i (firstFrom test (i + 1) n)) e)
+  where
+    later : (k : ℕ) → k < q → test (i + 1 + k) ≡ false
+    later k h = let v : i + 1 + k ≡ i + suc k = omega arith in ap test v ∙ f (suc k) (omega arith)
+
+-- what is found passes, if one does
+first-passes : (test : ℕ → Bool) (i n j : ℕ) → j < n → test (i + j) ≡ true → test (firstFrom test i n) ≡ true
+unfolding firstFrom
+first-passes test i zero j l t = absurd (omega arith)
+first-passes test i (suc n) zero l t =
+    let z : i + 0 ≡ i = omega arith in
+    let e : true ≡ test i = sym t ∙ ap test z in
+    ap (λ b. test (cond b i (firstFrom test (i + 1) n))) (sym e) ∙ sym e
+first-passes test i (suc n) (suc j) l t = let w : i + 1 + j ≡ i + suc j = omega arith in go (test i) refl (first-passes test (i + 1) n j (omega arith) (ap test w ∙ t))
+  where
+    go : (b : Bool) → test i ≡ b → test (firstFrom test (i + 1) n) ≡ true → test (cond b i (firstFrom test (i + 1) n)) ≡ true
+    go true e later = e
+    go false e later = later
+
+-- tests that agree find the same
+first-same : (f g : ℕ → Bool) (i n : ℕ) → ((k : ℕ) → f k ≡ g k) → firstFrom f i n ≡ firstFrom g i n
+unfolding firstFrom
+first-same f g i zero e = refl
+first-same f g i (suc n) e = rw (e i, first-same f g (i + 1) n e)
+
+-- a place outside the table is the same as any other there
+pub record Table (same : ℕ → ℕ → Bool) : Type 0 where
+  pub alike : Equivalence same
+  pub outside : (p : ℕ) → 14 ≤ p → same 14 p ≡ true
+
+module _ (same : ℕ → ℕ → Bool) (t : Table same) where
+  -- a place is the same as its class
+  class-same : (p : ℕ) → same (classOf same p) p ≡ true
+  unfolding classOf
+  class-same p = go (same 14 p) refl
+    where
+      inside : same 14 p ≡ false → p < 14
+      inside e = elim (decLt p 14) [ yes h ↦ h | no h ↦ absurd (let c : true ≡ false = sym (t .outside p (omega arith)) ∙ e in let z : _≡_ {A = ℕ} 0 1 = cc in omega arith) ]
+
+      go : (b : Bool) → same 14 p ≡ b → same (cond b 14 (firstFrom (λ k. same k p) 0 14)) p ≡ true
+      go true e = e
+      go false e = let z : 0 + p ≡ p = omega arith in first-passes (λ k. same k p) 0 14 p (inside e) (ap (λ k. same k p) z ∙ t .alike .itself p)
+
+  -- same places are seen as the same by all
+  agree : (p q k : ℕ) → same p q ≡ true → same k p ≡ same k q
+  agree p q k e = go (same k p) refl (same k q) refl
+    where
+      go : (b : Bool) → same k p ≡ b → (c : Bool) → same k q ≡ c → b ≡ c
+      go true f true g = refl
+      go true f false g = sym (t .alike .through k p q f e) ∙ g
+      go false f true g = sym f ∙ t .alike .through k q p g (t .alike .back p q e)
+      go false f false g = refl
+
+  same-class : (p q : ℕ) → same p q ≡ true → classOf same p ≡ classOf same q
+  unfolding classOf
+  same-class p q e = rw (agree p q 14 e, first-same (λ k. same k p) (λ k. same k q) 0 14 (λ k. agree p q k e))
+
+  class-to-same : (p q : ℕ) → classOf same p ≡ classOf same q → same p q ≡ true
+  class-to-same p q e = t .alike .through p (classOf same p) q (t .alike .back (classOf same p) p (class-same p)) (ap (λ k. same k q) e ∙ class-same q)
+
+  by-class : (p q : ℕ) → eqb (classOf same p) (classOf same q) ≡ same p q
+  by-class p q = go (same p q) refl (eqb (classOf same p) (classOf same q)) refl
+    where
+      go : (b : Bool) → same p q ≡ b → (c : Bool) → eqb (classOf same p) (classOf same q) ≡ c → c ≡ b
+      go true e true f = refl
+      go true e false f = sym f ∙ eq-eqb _ _ (same-class p q e)
+      go false e true f = sym (class-to-same p q (eqb-true _ _ f)) ∙ e
+      go false e false f = refl
+
+-- the classes of a table, place by place
+classes-length : (same : ℕ → ℕ → Bool) (i n : ℕ) → length (classesFrom same i n) ≡ n
+unfolding classesFrom
+classes-length same i zero = refl
+classes-length same i (suc n) = ap suc (classes-length same (i + 1) n)
+
+classes-at : (same : ℕ → ℕ → Bool) (i n k : ℕ) → k < n → getD (classesFrom same i n) k 0 ≡ classOf same (i + k)
+unfolding classesFrom
+classes-at same i zero k l = absurd (omega arith)
+classes-at same i (suc n) zero l = let z : i ≡ i + 0 = omega arith in ap (classOf same) z
+classes-at same i (suc n) (suc k) l = let w : i + 1 + k ≡ i + suc k = omega arith in classes-at same (i + 1) n k (omega arith) ∙ ap (classOf same) w
+
+-- how far the code has come: places below p have their class, and none of the places below q is the same as p
+pub record Classed (same : ℕ → ℕ → Bool) (list : List ℕ) (p q : ℕ) : Type 0 where
+  pub within : p ≤ 14
+  pub behind : q ≤ p
+  pub long : length list ≡ 14
+  pub done : (k : ℕ) → k < p → getD list k 0 ≡ classOf same k
+  pub none : (k : ℕ) → k < q → same k p ≡ false
+
+pub classed-none : (same : ℕ → ℕ → Bool) (list : List ℕ) → length list ≡ 14 → Classed same list 0 0
+classed-none same list e = record { within = omega arith; behind = omega arith; long = e; done = λ k h. absurd (omega arith); none = λ k h. absurd (omega arith) }
+
+module _ (same : ℕ → ℕ → Bool) (list : List ℕ) (p q : ℕ) (c : Classed same list p q) where
+  -- the class of p is found, and the next place is looked at
+  classed-found : (v : ℕ) → p < 14 → v ≡ classOf same p → Classed same (set list p v) (p + 1) 0
+  classed-found v h e =
+      record {
+        within = omega arith;
+        behind = omega arith;
+        long = length-set list p v ∙ c .long;
+        done = λ k l. elim (decLt k p) [ yes m ↦ getD-set-other list p k v 0 (λ f. absurd (omega arith)) ∙ c .done k m | no m ↦ last k (omega arith) ];
+        none = λ k l. absurd (omega arith);
+      }
+    where
+      last : (k : ℕ) → k ≡ p → getD (set list p v) k 0 ≡ classOf same k
+      last k f = ap (λ i. getD (set list p v) i 0) f ∙ (getD-set-same list p v 0 (omega (arith, c .long)) ∙ (e ∙ ap (classOf same) (sym f)))
+
+  pub classed-out : p < 14 → same 14 p ≡ true → Classed same (set list p 14) (p + 1) 0
+  unfolding classOf
+  classed-out h e = classed-found 14 h (ap (λ b. cond b 14 (firstFrom (λ k. same k p) 0 14)) (sym e))
+
+  pub classed-here : p < 14 → same 14 p ≡ false → same q p ≡ true → Classed same (set list p q) (p + 1) 0
+  unfolding classOf
+  classed-here h e f = classed-found q h (found ∙ ap (λ b. cond b 14 (firstFrom (λ k. same k p) 0 14)) (sym e))
+    where
+      found : q ≡ firstFrom (λ k. same k p) 0 14
+      found = let z : 0 + q ≡ q = omega arith in sym z ∙ first-at (λ k. same k p) 0 14 q (omega (arith, c .behind)) before (ap (λ k. same k p) z ∙ f)
+        where
+          before : (k : ℕ) → k < q → same (0 + k) p ≡ false
+          before k l = let z : 0 + k ≡ k = omega arith in ap (λ j. same j p) z ∙ c .none k l
+
+  -- a place that is like none before it is its own class
+  pub classed-own : Equivalence same → p < 14 → same 14 p ≡ false → q ≡ p → Classed same (set list p p) (p + 1) 0
+  classed-own a h e f = rw (f) at (classed-here h e (ap (λ k. same k p) f ∙ a .itself p))
+
+  pub classed-next : q < p → same q p ≡ false → Classed same list p (q + 1)
+  classed-next h e =
+      record {
+        within = c .within;
+        behind = omega arith;
+        long = c .long;
+        done = c .done;
+        none = λ k l. elim (decLt k q) [ yes m ↦ c .none k m | no m ↦ let f : k ≡ q = omega arith in ap (λ j. same j p) f ∙ e ];
+      }
+
+  pub classed-end : 14 ≤ p → list ≡ classesFrom same 0 14
+  classed-end h =
+      ext-getD 0 list (classesFrom same 0 14) (c .long ∙ sym (classes-length same 0 14))
+      (λ k l. let z : 0 + k ≡ k = omega arith in c .done k (omega (arith, c .long)) ∙ (ap (classOf same) (sym z) ∙ sym (classes-at same 0 14 k (omega (arith, c .long)))))
+
+empty-of : (x : List ℕ) → length x ≡ 0 → x ≡ []
+empty-of [] e = refl
+empty-of (a ∷ x) e = absurd (omega arith)
+
+-- the names of a table
+names-outside : (names : Names) (p : ℕ) → 14 ≤ p → nameAt names p ≡ noName
+unfolding nameAt
+names-outside names p h = rw (le-ltb _ _ h)
+
+named-table : (names : Names) → Table (sameAt names)
+unfolding sameAt
+named-table names = record { alike = same-places names; outside = outside }
+  where
+    outside : (p : ℕ) → 14 ≤ p → sameAt names 14 p ≡ true
+    outside p h = rw (names-outside names p h, names-outside names 14 (omega arith)) (same-name .itself (nameBytes noName))
+
+class-is : (names : Names) (p : ℕ) → classAt (sameNames names) p ≡ classOf (sameAt names) p
+unfolding classAt sameNames classOf
+class-is names p = elim (decLt p 14) [ yes h ↦ rw (lt-ltb _ _ h) (let z : 0 + p ≡ p = omega arith in classes-at (sameAt names) 0 14 p h ∙ ap (classOf (sameAt names)) z) | no h ↦ rw (le-ltb p 14 (omega arith)) (out (omega arith)) ]
+  where
+    out : 14 ≤ p → 14 ≡ classOf (sameAt names) p
+    out h = ap (λ b. cond b 14 (firstFrom (λ k. sameAt names k p) 0 14)) (sym (named-table names .outside p h))
+
+-- the classes of a table of names say what its bytes say
+pub classes-same : (names : Names) → sameClass (sameNames names) ≡ sameAt names
+unfolding sameClass
+classes-same names = λ j p q. ((ap (λ k. eqb k (classAt (sameNames names) q)) (class-is names p) ∙ ap (λ k. eqb (classOf (sameAt names) p) k) (class-is names q)) ∙ by-class (sameAt names) (named-table names) p q) j
+
+-- what the code compares: names in the table, an empty one against one outside, and lengths that differ
+module _ (names : Names) (p : ℕ) (h : p < 14) where
+  pub name-in : nameAt names p ≡ getD (names .list) p blankName
+  unfolding nameAt
+  name-in = rw (lt-ltb _ _ h)
+
+  outside-name : nameBytesAt names 14 ≡ []
+  unfolding nameBytes noName
+  outside-name = ap nameBytes (names-outside names 14 (omega arith))
+
+  pub empty-out : length (nameBytes (getD (names .list) p blankName)) ≡ 0 → sameAt names 14 p ≡ true
+  unfolding sameAt
+  empty-out e = rw (outside-name, name-in, empty-of (nameBytes (getD (names .list) p blankName)) e) (same-name .itself [])
+
+  pub full-out : (length (nameBytes (getD (names .list) p blankName)) ≡ 0 → ⊥) → sameAt names 14 p ≡ false
+  unfolding sameAt sameName
+  full-out e = rw (outside-name, name-in) (sym (other-length [] _ (λ f. e (sym f))))
+
+  module _ (q : ℕ) (k : q < 14) where
+    pub same-in : sameName (nameBytes (getD (names .list) q blankName)) (nameBytes (getD (names .list) p blankName)) ≡ sameAt names q p
+    unfolding sameAt nameAt
+    same-in = rw (lt-ltb _ _ h, lt-ltb _ _ k)
+
+    pub lengths-apart : (length (nameBytes (getD (names .list) p blankName)) ≡ length (nameBytes (getD (names .list) q blankName)) → ⊥) → sameAt names q p ≡ false
+    unfolding sameName
+    lengths-apart e = sym same-in ∙ sym (other-length _ _ (λ f. e (sym f)))
