@@ -1,4 +1,5 @@
-// Which places hold the same host or the same ECH bytes: for each the first such place. Decisions ask this in place of the bytes.
+// Which places hold the same host or the same ECH bytes: for each the first such place, 14 for the origin's host and 40 for no ECH bytes.
+// Decisions ask this in place of the bytes.
 use records::endpoints::Endpoint;
 use records::endpoints::Target;
 use records::endpoints::same_head;
@@ -26,23 +27,31 @@ pub struct Alike {
     pub echs: SameEchs,
 }
 
-// Each host is compared with those before it. Names come without their trailing dot here, and the origin's stands for one that is empty.
+// The class of a host that is first met at q; the origin's is 14.
+fn host_mark(q: usize) -> u8 {
+    if q == 0 {
+        return 14;
+    }
+    (q % 256) as u8
+}
+
+// The classes of hosts: names without their trailing dot, the origin's where a name is empty. Each is compared with those before it.
 pub fn same_hosts(names: Names) -> SameHosts {
     let mut list = [0u8; 14];
-    let mut p: usize = 1;
+    let mut p: usize = 0;
     let mut q: usize = 0;
     let origin = names.list[0];
     while p < 14 {
-        let a = names.list[q];
-        let b = names.list[p];
         if q == p {
-            list[p] = p as u8;
+            list[p] = host_mark(q);
             p += 1;
             q = 0;
             continue;
         }
+        let a = names.list[q];
+        let b = names.list[p];
         if same_connected(origin, a, b) {
-            list[p] = q as u8;
+            list[p] = host_mark(q);
             p += 1;
             q = 0;
             continue;
@@ -106,7 +115,7 @@ fn host_class(t: SameHosts, place: u8) -> u8 {
     if p < 14 {
         return t.list[p];
     }
-    0
+    14
 }
 
 fn ech_class(t: SameEchs, place: u8) -> u8 {
