@@ -21,7 +21,6 @@ use Rattle.records.specs.declared.queries.Queries.{Queries}
 use Rattle.records.specs.declared.queries.Answers.{Answers}
 use Rattle.records.specs.declared.services.Services.{Services}
 use Rattle.records.specs.declared.endpoints.Endpoint.{Endpoint}
-use Rattle.listing.specs.Held.{Same}
 use Rattle.state.specs.State.{noAttempt, newAttempt, withState}
 use Rattle.state.specs.declared.Machine.{Machine}
 use Rattle.state.specs.declared.attempts.State.the-variants.{Cancelled}
@@ -96,7 +95,7 @@ unfoldable pub gate : Rules → Timing → Services → Tries → Asks → ℕ �
 gate r t s tries asks now = not (ltb 0 (attemptLeft t tries now)) && mayStart r t asks (hintsOf s) now
 
 -- what the rules call for, over any test of names and of endpoints
-unfoldable pub wishBy : Same → Alike → Rules → Timing → Alts → Queries → Answers → Services → Attempts → Retries → ℕ → Wish
+unfoldable pub wishBy : (ℕ → ℕ → Bool) → Alike → Rules → Timing → Alts → Queries → Answers → Services → Attempts → Retries → ℕ → Wish
 wishBy same alike r t l q d s a retries now =
     cond (triesOf a .won) (endWish (triesOf a .first))
     (retryWish (nextRetry alike a retries)

@@ -146,7 +146,7 @@ ownName (alt.Own h) = isNamed h
 
 unfoldable pub altPlaces : ℕ → List Alt → List ℕ
 altPlaces i [] = []
-altPlaces i (a ∷ l) = cond (ownName (a .host)) (i + 1 ∷ altPlaces (i + 1) l) (altPlaces (i + 1) l)
+altPlaces i (a ∷ l) = cond (ownName (a .host)) ((i + 1) ∷ altPlaces (i + 1) l) (altPlaces (i + 1) l)
 
 unfoldable pub otherPlaces : Rules → Alts → Services → List ℕ
 otherPlaces r a s = targetPlaces (anyEch (r .ech) s) (offered s) ++ altPlaces 0 (take (a .count) (a .list))
