@@ -234,10 +234,7 @@ pub fn fill_sixes(s: &[u8], first: usize, n: usize) -> Sixes {
                 return out;
             }
             AddrRead::Address(a, next) => {
-                let x = Hint {
-                    hi: a.hi,
-                    lo: a.lo,
-                };
+                let x = Hint { hi: a.hi, lo: a.lo };
                 out.list[i] = x;
                 p = next;
                 i += 1;

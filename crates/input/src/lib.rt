@@ -212,7 +212,13 @@ fn end_verdict(on: bool, count: usize, p: usize, a: Attempt, outcome: Outcome) -
     }
 }
 
-fn result_verdict(on: bool, attempts: Attempts, count: usize, id: u64, outcome: Outcome) -> Verdict {
+fn result_verdict(
+    on: bool,
+    attempts: Attempts,
+    count: usize,
+    id: u64,
+    outcome: Outcome,
+) -> Verdict {
     let w = tried_of(attempts, id);
     match w {
         Tried::Nobody => Verdict::Refused(Refusal::UnknownId),

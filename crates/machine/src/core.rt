@@ -54,7 +54,15 @@ pub struct InputStep {
 pub fn process_output(m: Machine, now: u64) -> OutputStep {
     let alike = alike_of(m.names, m.echs);
     let w = wish_of(
-        m.rules, m.timing, m.alts, m.queries, m.answers, m.services, m.attempts, m.retries, alike,
+        m.rules,
+        m.timing,
+        m.alts,
+        m.queries,
+        m.answers,
+        m.services,
+        m.attempts,
+        m.retries,
+        alike,
         now,
     );
     let t = grant_of(m.queries, m.attempts, m.ids, w, now);

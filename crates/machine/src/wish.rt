@@ -137,7 +137,14 @@ fn next_if(
 }
 
 // Whether the gate is open: no attempt in progress is within the delay, and attempts may start.
-fn is_open_gate(rules: Rules, timing: Timing, services: Services, asks: Asks, left: u64, now: u64) -> bool {
+fn is_open_gate(
+    rules: Rules,
+    timing: Timing,
+    services: Services,
+    asks: Asks,
+    left: u64,
+    now: u64,
+) -> bool {
     if 0 < left {
         return false;
     }
@@ -165,7 +172,17 @@ fn start_wish(
     match e {
         Next::New(e) => Wish::Attempt(e),
         Next::Nothing => query_wish(
-            rules, timing, alts, queries, services, alike, tries, asks, count, left, now,
+            rules,
+            timing,
+            alts,
+            queries,
+            services,
+            alike,
+            tries,
+            asks,
+            count,
+            left,
+            now,
         ),
     }
 }
@@ -191,7 +208,16 @@ pub fn wish_of(
     match r {
         Next::New(e) => Wish::Retry(e),
         Next::Nothing => start_wish(
-            rules, timing, alts, queries, answers, services, attempts, alike, tries, now,
+            rules,
+            timing,
+            alts,
+            queries,
+            answers,
+            services,
+            attempts,
+            alike,
+            tries,
+            now,
         ),
     }
 }

@@ -100,7 +100,16 @@ fn call_turn(
     now: u64,
 ) -> Turn {
     let w = wish_of(
-        rules, timing, alts, queries, answers, services, attempts, retries, alike, now,
+        rules,
+        timing,
+        alts,
+        queries,
+        answers,
+        services,
+        attempts,
+        retries,
+        alike,
+        now,
     );
     let t = grant_of(queries, attempts, ids, w, now);
     let output = t.output;
@@ -128,7 +137,17 @@ fn turn_of(
 ) -> Turn {
     match event {
         Event::Call => call_turn(
-            rules, timing, alts, ids, queries, answers, services, attempts, retries, alike, now,
+            rules,
+            timing,
+            alts,
+            ids,
+            queries,
+            answers,
+            services,
+            attempts,
+            retries,
+            alike,
+            now,
         ),
         _ => input_turn(verdict_of(
             rules.ech,
@@ -198,7 +217,17 @@ fn event_turn(
     match r {
         EventRead::Refused(e) => input_turn(Verdict::Refused(e)),
         EventRead::Event(event) => turn_of(
-            rules, timing, alts, ids, queries, answers, services, attempts, retries, alike, event,
+            rules,
+            timing,
+            alts,
+            ids,
+            queries,
+            answers,
+            services,
+            attempts,
+            retries,
+            alike,
+            event,
             now,
         ),
     }
@@ -244,8 +273,18 @@ fn run(
                 let body = &tape[start..next];
                 let read = read_event(body);
                 let turn = event_turn(
-                    read, rules, timing, alts, ids, queries, answers, services, attempts, retries,
-                    alike, now,
+                    read,
+                    rules,
+                    timing,
+                    alts,
+                    ids,
+                    queries,
+                    answers,
+                    services,
+                    attempts,
+                    retries,
+                    alike,
+                    now,
                 );
                 let said = turn.said;
                 let change = turn.change;

@@ -1,3 +1,4 @@
+pub mod Https
 pub mod State
 pub mod Changes
 pub mod Lists

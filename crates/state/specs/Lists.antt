@@ -41,7 +41,6 @@ module _ {A : Type 0} where
   total f [] = 0
   total f (x ∷ xs) = f x + total f xs
 
-
 -- whether i is a member
 unfoldable pub has : ℕ → List ℕ → Bool
 has i [] = false

@@ -4,7 +4,7 @@ use Prim.Native.Nat.{ℕ, _+_, _-_, _*_, _^_}
 use mathlib.Core.Bool.{Bool, true, false, not, cond}
 use mathlib.Core.List.{List, [], _∷_, _++_, map}
 use lib.Dec.{eqb, ltb, leb}
-use lib.ListN.{length, take, drop, getD}
+use lib.ListN.{length, drop, getD}
 use Rattle.numbers.specs.Names.{nameOk}
 use Rattle.records.specs.Lists.{each, some?}
 use Rattle.records.specs.Numbers.{kindNumber, rankNumber}
@@ -48,7 +48,8 @@ use Rattle.state.specs.declared.attempts.Attempt.{Attempt}
 use Rattle.state.specs.declared.attempts.Attempts.{Attempts}
 use Rattle.state.specs.declared.attempts.Retries.{Retries}
 use Rattle.state.specs.Lists.{_and_, _or_, all, every, everyAt, apart, total, has}
-use Rattle.state.specs.State.{asked, tried, retriesOf, isOpen, hasWon, prefixed, isPrefixed}
+use Rattle.state.specs.Https.{prefixed}
+use Rattle.state.specs.State.{asked, tried, retriesOf, isOpen, hasWon, isPrefixed}
 
 -- Room
 

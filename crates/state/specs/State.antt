@@ -1,17 +1,16 @@
 -- Attempts and retries (document 01, "Sizes"), what of the machine is in use, and the machine that is made.
-use Prim.Native.Nat.{ℕ, zero, suc, _+_, _/_, _%_}
+use Prim.Native.Nat.{ℕ}
 use mathlib.Core.Bool.{Bool, true, false, not, cond, _&&_}
-use mathlib.Core.List.{List, [], _∷_, _++_}
-use lib.Dec.{eqb, ltb}
-use lib.ListN.{length, take, getD, set, replicate}
+use mathlib.Core.List.{List}
+use lib.Dec.{eqb}
+use lib.ListN.{take, replicate}
 use Rattle.pacing.specs.Ids.{firstId}
-use Rattle.records.specs.Lists.{padded}
-use Rattle.records.specs.Names.{noEchs, nameBytesAt}
+use Rattle.records.specs.Names.{noEchs, nameBytesAt, withName}
+use Rattle.state.specs.Https.{prefixed, nameIn}
 use Rattle.records.specs.Queries.{noQueries, noAnswers}
 use Rattle.records.specs.Rules.{isNamed}
 use Rattle.records.specs.Services.{noServices}
 use Rattle.records.specs.Endpoints.{noEndpoint}
-use Rattle.records.specs.declared.names.Name.{Name}
 use Rattle.records.specs.declared.names.Names.{Names}
 use Rattle.records.specs.declared.rules.Rules.{Rules}
 use Rattle.records.specs.declared.rules.Timing.{Timing}
@@ -65,23 +64,6 @@ newAttempt id e now retry = record { id = id; endpoint = e; started = now; state
 abbrev pub withState : Attempt → State → Attempt
 withState a s = record { id = a .id; endpoint = a .endpoint; started = a .started; state = s; retry = a .retry }
 
--- a number below 10 to the n, in decimal
-unfoldable pub decimal : (n : ℕ) → ℕ → List ℕ
-decimal zero x = []
-decimal (suc n) x = cond (ltb x 10) ((48 + x) ∷ []) (decimal n (x / 10) ++ (48 + x % 10) ∷ [])
-
--- `._https.`
-abbrev pub httpsLabel : List ℕ
-httpsLabel = 46 ∷ 95 ∷ 104 ∷ 116 ∷ 116 ∷ 112 ∷ 115 ∷ 46 ∷ []
-
--- (H) "HTTPS name: the origin at port 443, else `_PORT._https.` before it"
-unfoldable pub prefixed : ℕ → List ℕ → List ℕ
-prefixed port origin = (95 ∷ decimal 5 port) ++ httpsLabel ++ origin
-
--- bytes in the room of a name, cut at the room
-unfoldable pub nameIn : List ℕ → Name
-nameIn bs = record { len = length (take 253 bs); bytes = padded 253 0 (take 253 bs) }
-
 unfoldable pub isPrefixed : Rules → Bool
 isPrefixed r = not (eqb (r .port) 443) && isNamed (r .host)
 
@@ -91,7 +73,7 @@ httpsPlace r = cond (isPrefixed r) 13 0
 
 -- the names at the making
 unfoldable pub firstNames : Rules → Names → Names
-firstNames r n = cond (isPrefixed r) (record { list = set (n .list) 13 (nameIn (prefixed (r .port) (nameBytesAt n 0))) }) n
+firstNames r n = cond (isPrefixed r) (withName n 13 (nameIn (prefixed (r .port) (nameBytesAt n 0)))) n
 
 -- "With no input, demand 3 counts from the making."
 unfoldable pub made : Rules → Timing → Alts → Names → Machine

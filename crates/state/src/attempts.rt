@@ -1,4 +1,6 @@
 // Attempts, and the ECH retries that came for them.
+ghost use mathlib.Core.Path.{_≡_};
+ghost use Rattle.state.specs.State.{noAttempt, noAttempts, noRetries, isOpen, hasWon, newAttempt, withState};
 use records::endpoints::Endpoint;
 use records::endpoints::no_endpoint;
 
@@ -30,7 +32,9 @@ pub struct Retries {
     pub list: [u8; 32],
 }
 
-pub fn no_attempt() -> Attempt {
+pub fn no_attempt() -> Attempt
+    ensures { λ a. ⌜ a ≡ noAttempt ⌝ }
+{
     let e = no_endpoint();
     Attempt {
         id: 0,
@@ -41,7 +45,9 @@ pub fn no_attempt() -> Attempt {
     }
 }
 
-pub fn no_attempts() -> Attempts {
+pub fn no_attempts() -> Attempts
+    ensures { λ a. ⌜ a ≡ noAttempts ⌝ }
+{
     let a = no_attempt();
     Attempts {
         count: 0,
@@ -49,14 +55,18 @@ pub fn no_attempts() -> Attempts {
     }
 }
 
-pub fn no_retries() -> Retries {
+pub fn no_retries() -> Retries
+    ensures { λ r. ⌜ r ≡ noRetries ⌝ }
+{
     Retries {
         count: 0,
         list: [0; 32],
     }
 }
 
-pub fn is_open(s: State) -> bool {
+pub fn is_open(s: State) -> bool
+    ensures { λ r. ⌜ r ≡ isOpen s ⌝ }
+{
     match s {
         State::InProgress => true,
         State::Succeeded => false,
@@ -65,7 +75,9 @@ pub fn is_open(s: State) -> bool {
     }
 }
 
-pub fn has_won(s: State) -> bool {
+pub fn has_won(s: State) -> bool
+    ensures { λ r. ⌜ r ≡ hasWon s ⌝ }
+{
     match s {
         State::InProgress => false,
         State::Succeeded => true,
@@ -75,7 +87,9 @@ pub fn has_won(s: State) -> bool {
 }
 
 // An attempt that begins.
-pub fn new_attempt(id: u64, endpoint: Endpoint, now: u64, retry: bool) -> Attempt {
+pub fn new_attempt(id: u64, endpoint: Endpoint, now: u64, retry: bool) -> Attempt
+    ensures { λ a. ⌜ a ≡ newAttempt id endpoint now retry ⌝ }
+{
     Attempt {
         id,
         endpoint,
@@ -86,7 +100,9 @@ pub fn new_attempt(id: u64, endpoint: Endpoint, now: u64, retry: bool) -> Attemp
 }
 
 // The attempt in another state.
-pub fn with_state(a: Attempt, state: State) -> Attempt {
+pub fn with_state(a: Attempt, state: State) -> Attempt
+    ensures { λ r. ⌜ r ≡ withState a state ⌝ }
+{
     let e = a.endpoint;
     Attempt {
         id: a.id,

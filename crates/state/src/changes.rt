@@ -1,4 +1,6 @@
 // What an event changes: at most one record of each kind, given with its place.
+ghost use mathlib.Core.Path.{_≡_};
+ghost use Rattle.state.specs.Changes.{firstName, firstEch};
 use super::attempts::Attempt;
 use records::queries::Query;
 
@@ -27,24 +29,20 @@ pub enum Change {
 }
 
 // The places of a round's four names and four ECH configurations begin here.
-pub fn first_name(r: Round) -> u8 {
+pub fn first_name(r: Round) -> u8
+    ensures { λ p. ⌜ p ≡ firstName r ⌝ }
+{
     match r {
         Round::First => 5,
         Round::Second => 9,
     }
 }
 
-pub fn first_ech(r: Round) -> u8 {
+pub fn first_ech(r: Round) -> u8
+    ensures { λ p. ⌜ p ≡ firstEch r ⌝ }
+{
     match r {
         Round::First => 0,
         Round::Second => 4,
     }
-}
-
-// A count after something stands at place p.
-pub fn counted(n: usize, p: usize) -> usize {
-    if p < n {
-        return n;
-    }
-    p + 1
 }

@@ -1,4 +1,11 @@
-// (H) "HTTPS name: the origin at port 443, else `_PORT._https.` before it (RFC 9460)."
+// (H) The HTTPS name: `_PORT._https.` before the origin (RFC 9460), unless the port is 443.
+ghost use Prim.Native.Nat.{_+_, _%_, _≤_};
+ghost use mathlib.Core.Path.{_≡_};
+ghost use mathlib.Core.List.{_++_};
+ghost use lib.ListN.{take};
+ghost use Rattle.records.specs.Lists.{padded};
+ghost use Rattle.records.specs.Names.{nameBytes};
+ghost use Rattle.state.specs.Https.{decimal, digitsIn, prefixed, nameIn, Stands};
 use records::names::Name;
 use records::names::name_len;
 
@@ -8,42 +15,58 @@ pub struct Digits {
     pub list: [u8; 5],
 }
 
-// How many decimal digits a port has.
-fn digit_count(port: u16) -> usize {
+fn digit(v: u16) -> u8
+    ensures { λ d. ⌜ d ≡ 48 + v % 10 ⌝ }
+{
+    48 + (v % 10) as u8
+}
+
+fn digits_of(port: u16) -> Digits
+    ensures { λ d. ⌜ d ≡ digitsIn (decimal 5 port) ⌝ }
+{
+    let b = port / 10;
+    let c = b / 10;
+    let d = c / 10;
+    let e = d / 10;
     if port < 10 {
-        return 1;
+        return Digits {
+            count: 1,
+            list: [digit(port), 0, 0, 0, 0],
+        };
     }
-    if port < 100 {
-        return 2;
+    if b < 10 {
+        return Digits {
+            count: 2,
+            list: [digit(b), digit(port), 0, 0, 0],
+        };
     }
-    if port < 1000 {
-        return 3;
+    if c < 10 {
+        return Digits {
+            count: 3,
+            list: [digit(c), digit(b), digit(port), 0, 0],
+        };
     }
-    if port < 10000 {
-        return 4;
+    if d < 10 {
+        return Digits {
+            count: 4,
+            list: [digit(d), digit(c), digit(b), digit(port), 0],
+        };
     }
-    5
+    Digits {
+        count: 5,
+        list: [digit(e), digit(d), digit(c), digit(b), digit(port)],
+    }
 }
 
-fn digits_of(port: u16) -> Digits {
-    let n = digit_count(port);
-    let mut list = [0u8; 5];
-    let mut v = port;
-    let mut k = n;
-    while 0 < k {
-        k -= 1;
-        list[k] = 48 + (v % 10) as u8;
-        v = v / 10;
-    }
-    Digits { count: n, list }
-}
-
-// Puts the bytes from the place at on, as far as there is room, and gives the place after them.
-fn put(out: &mut [u8], at: usize, bytes: &[u8]) -> usize {
+// Puts the bytes behind the first `at`, as far as there is room, and gives the place after them.
+fn put(out: &mut [u8; 253], at: usize, bytes: &[u8]) -> usize
+    requires { ⌜ (at ≤ 253) × (now out ≡ padded 253 0 (take at (now out))) ⌝ }
+    ensures { λ p. ⌜ Stands (take at (now (out .entry)) ++ now (bytes .entry)) p (now (out .exit)) ⌝ }
+{
     let mut p = at;
     let mut i: usize = 0;
     while i < bytes.len() {
-        if out.len() <= p {
+        if 253 <= p {
             return p;
         }
         out[p] = bytes[i];
@@ -54,7 +77,9 @@ fn put(out: &mut [u8], at: usize, bytes: &[u8]) -> usize {
 }
 
 // `_PORT._https.` and the name. An origin's name has at most 239 bytes, so all of it fits.
-pub fn https_name(port: u16, origin: Name) -> Name {
+pub fn https_name(port: u16, origin: Name) -> Name
+    ensures { λ n. ⌜ n ≡ nameIn (prefixed port (nameBytes origin)) ⌝ }
+{
     let d = digits_of(port);
     let list = d.list;
     let count = d.count;

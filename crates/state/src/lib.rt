@@ -1,4 +1,6 @@
 // What the machine holds beside its records: attempts, retries, and the whole of it; and how it is made.
+ghost use mathlib.Core.Path.{_≡_};
+ghost use Rattle.state.specs.State.{isPrefixed, httpsPlace, firstNames, made};
 use attempts::Attempts;
 use attempts::Retries;
 use attempts::no_attempts;
@@ -38,7 +40,9 @@ pub struct Machine {
 }
 
 // Whether the HTTPS name has a prefix: the origin is a name, and its port isn't 443.
-fn is_prefixed(rules: Rules) -> bool {
+fn is_prefixed(rules: Rules) -> bool
+    ensures { λ r. ⌜ r ≡ isPrefixed rules ⌝ }
+{
     let h = rules.host;
     if rules.port == 443 {
         return false;
@@ -47,7 +51,9 @@ fn is_prefixed(rules: Rules) -> bool {
 }
 
 // The names at the making: those of the configuration, at places 0 to 4, and the HTTPS name where it has a prefix.
-pub fn first_names(rules: Rules, names: Names) -> Names {
+fn first_names(rules: Rules, names: Names) -> Names
+    ensures { λ r. ⌜ r ≡ firstNames rules names ⌝ }
+{
     if !is_prefixed(rules) {
         return names;
     }
@@ -59,7 +65,9 @@ pub fn first_names(rules: Rules, names: Names) -> Names {
 }
 
 // The place of the HTTPS name.
-pub fn https_place(rules: Rules) -> u8 {
+pub fn https_place(rules: Rules) -> u8
+    ensures { λ p. ⌜ p ≡ httpsPlace rules ⌝ }
+{
     if is_prefixed(rules) {
         return 13;
     }
@@ -67,7 +75,9 @@ pub fn https_place(rules: Rules) -> u8 {
 }
 
 // A machine before any event. Of the names only places 0 to 4 are filled.
-pub fn made(rules: Rules, timing: Timing, alts: Alts, names: Names) -> Machine {
+pub fn made(rules: Rules, timing: Timing, alts: Alts, names: Names) -> Machine
+    ensures { λ m. ⌜ m ≡ made rules timing alts names ⌝ }
+{
     let all = first_names(rules, names);
     Machine {
         rules,
