@@ -2,10 +2,9 @@
 # Times the proved listing against the original's, on one core where it can be chosen. No test: read the ratios.
 set -eu
 cd "$(dirname "$0")"
-mkdir -p ../target/differential
 
 ./install.sh
-(cd .. && rt staticlib states >target/differential/states.log 2>&1) || { cat ../target/differential/states.log; exit 1; }
+../tests/archive
 (cd oracle && cargo build --profile speed --offline --quiet -p bench)
 
 pin=""

@@ -11,7 +11,7 @@ judge=../target/oracle/release/judge
 ./short.sh
 
 echo "--- the proved listing, as an archive"
-(cd .. && rt staticlib states >target/differential/states.log 2>&1) || { cat ../target/differential/states.log; exit 1; }
+../tests/archive
 
 echo "--- the original, from ${HAPPY_EYEBALLS_SRC:-../shared/docs/src}"
 (cd oracle && cargo build --release --offline --quiet && cargo test --release --offline --quiet)

@@ -5,12 +5,13 @@
 
 mod rng;
 mod run;
+mod tally;
 
 use rng::Random;
-use std::fmt::{Arguments, Debug, Formatter};
+use std::fmt::{Debug, Formatter};
 use std::hint::black_box;
-use std::process::exit;
 use std::time::Instant;
+use tally::Tally;
 
 /// What the words hold before an entry stores into them, and after it where it stores nothing.
 const UNTOUCHED: u64 = 0x5a5a_a5a5_0f0f_f0f0;
@@ -340,44 +341,6 @@ impl Random {
 
     fn buffer(&mut self, len: usize) -> Buffer {
         Buffer { memory: std::array::from_fn(|_| self.byte()), len }
-    }
-}
-
-/// The comparisons of one kind, counted by what came of them.
-struct Tally {
-    kind: &'static str,
-    /// The outcomes by number; one without a name can't come.
-    outcomes: &'static [&'static str],
-    met: Vec<u64>,
-}
-
-impl Tally {
-    fn new(kind: &'static str, outcomes: &'static [&'static str]) -> Self {
-        Tally { kind, outcomes, met: vec![0; outcomes.len()] }
-    }
-
-    fn compare<A: Debug + PartialEq>(&mut self, input: Arguments, rattle: A, rust: A, outcome: usize) {
-        if rattle != rust {
-            println!("leaves: {}: the answers differ (numbers in base 16)", self.kind);
-            println!("  input:  {input}\n  Rattle: {rattle:x?}\n  Rust:   {rust:x?}");
-            exit(1);
-        }
-        self.met[outcome] += 1;
-    }
-
-    fn total(&self) -> u64 {
-        self.met.iter().sum()
-    }
-
-    /// Prints the counts. An outcome that never came ends the program: the comparison would have been empty there.
-    fn report(&self) {
-        let named = || self.outcomes.iter().zip(&self.met).filter(|(name, _)| !name.is_empty());
-        let parts: Vec<String> = named().map(|(name, n)| format!("{name} {n}")).collect();
-        println!("{:16} {:8}: {}", self.kind, self.total(), parts.join(", "));
-        if let Some((name, _)) = named().find(|(_, n)| **n == 0) {
-            println!("leaves: {} never came to {name}", self.kind);
-            exit(1);
-        }
     }
 }
 
@@ -834,7 +797,7 @@ fn ids(random: &mut Random) -> Tally {
 }
 
 fn compare_all(random: &mut Random) {
-    let kinds = [
+    let kinds: [tally::Kind; 12] = [
         numbers_read,
         number_lengths,
         numbers_written,
@@ -848,13 +811,7 @@ fn compare_all(random: &mut Random) {
         delays,
         ids,
     ];
-    let mut total = 0;
-    for kind in kinds {
-        let tally = kind(random);
-        tally.report();
-        total += tally.total();
-    }
-    println!("leaves: {total} comparisons, none differ");
+    tally::run("leaves", &kinds, random);
 }
 
 type Call = (u64, u32, u64);

@@ -2,8 +2,7 @@
 # The proved listing against the model's, on states of random histories and on others. Run after `rt ci`, which removes target/.
 set -eu
 cd "$(dirname "$0")/.."
-mkdir -p target
-rt staticlib states >target/staticlib.log 2>&1 || { cat target/staticlib.log; exit 1; }
+tests/archive
 cd differential
 cargo build --release --offline --quiet -p listing
 ../target/differential/release/listing 20000 20000 1

@@ -8,7 +8,8 @@ What a paper may put between backticks, and what is then asked:
   `word`                     a name of the code, or one that docs/RULES.md lists under "Names from elsewhere"
   bytes in hexadecimal, ../paths, and whatever has other signs in it: nothing
 And of docs/RULES.md: rules are numbered without a gap, each has its line of places, and every public function and every definition that
-a public contract cites is named. A rule that is cited anywhere exists."""
+a public contract cites is named. Public is what another crate can call: `pub`, in a public module, not of a test crate. A rule that is cited
+anywhere exists."""
 
 import fnmatch
 import glob
@@ -19,8 +20,8 @@ import sys
 
 RULES = 'docs/RULES.md'
 # Fewer of a sort than this, and the reading is at fault.
-LEAST = {'definitions': 60, 'laws': 40, 'functions': 25, 'files': 20, 'tapes': 80, 'words': 20, 'rules': 60, 'citations': 20,
-         'public functions': 20, 'definitions of public contracts': 30}
+LEAST = {'definitions': 120, 'laws': 80, 'functions': 45, 'files': 30, 'tapes': 80, 'words': 40, 'rules': 80, 'citations': 80,
+         'public functions': 45, 'definitions of public contracts': 50}
 LABELS = {'definition', 'promise', 'laws', 'test', 'model', 'waits', 'see', 'edits'}
 FOLDERS = r'(?:docs|crates|tests|host|differential|\.ci)'
 ENDINGS = ('.md', '.sh', '.py', '.rs', '.rt', '.antt', '.txt', '.toml', '.edit')
@@ -100,8 +101,22 @@ def antt(crates):
 
 
 class Function:
-    def __init__(self, where, public, contract, cites):
-        self.where, self.public, self.contract, self.cites = where, public, contract, cites
+    def __init__(self, where, public, reached, contract, cites):
+        self.where, self.public, self.reached, self.contract, self.cites = where, public, reached, contract, cites
+
+
+def modules(crate):
+    """The modules of a crate, each with whether it is public: its `mod` line and those of all modules above it say `pub`."""
+    top, found = f'crates/{crate}/src/', {}
+    for path in files(top, '.rt'):
+        above = tuple(m for m in path[len(top):-len('.rt')].split('/') if m not in ('lib', 'main', 'mod'))
+        for line in read(path).splitlines():
+            m = re.match(r'\s*(pub )?mod (\w+)\s*(.?)', line)
+            if m and m.group(3) != ';':
+                fault(path, f'"{line.strip()}": a module is read from a file of its own')
+            elif m:
+                found[(*above, m.group(2))] = bool(m.group(1))
+    return {name: all(found.get(name[:k], False) for k in range(1, len(name) + 1)) for name in found}
 
 
 def imports(path, text):
@@ -139,11 +154,15 @@ def functions(crates):
     found, kinds, parts, plain = {}, {}, set(), 0
     for crate in crates:
         top = f'crates/{crate}/src/'
+        shown = modules(crate)
         for path in files(top, '.rt'):
             text = '\n'.join(re.sub(r'^\s*//.*', '', line) for line in read(path).splitlines())
             plain += len(re.findall(r'^\s*pub (?:extern "C" )?fn ', text, re.M))
             names, aliases = imports(path, text)
             module = [m for m in path[len(top):-len('.rt')].split('/') if m not in ('lib', 'main', 'mod')]
+            if module and tuple(module) not in shown:
+                fault(path, 'no `mod` line names this file')
+            reached = not module or shown.get(tuple(module), False)
             owner, kind = [], None
             lines = text.splitlines()
             for n, line in enumerate(lines):
@@ -176,7 +195,8 @@ def functions(crates):
                 at = re.search(r'\b(?:requires|ensures)\b', head)
                 contract = head[at.start():] if at else ''
                 full = '::'.join([crate, *module, *owner, f.group(2)])
-                found[full] = Function(f'{path}:{n + 1}', bool(f.group(1)), contract, cited(f'{path}:{n + 1}', contract, names, aliases))
+                where = f'{path}:{n + 1}'
+                found[full] = Function(where, bool(f.group(1)), reached, contract, cited(where, contract, names, aliases))
     return found, kinds, parts, plain
 
 
@@ -208,7 +228,7 @@ def test_crates():
 
 
 tests = test_crates()
-publics = {name: f for name, f in fns.items() if f.public and name.split('::')[0] not in tests}
+publics = {name: f for name, f in fns.items() if f.public and f.reached and name.split('::')[0] not in tests}
 last_names = {name.split('::')[-1] for name in fns}
 members = set().union(*types.values()) if types else set()
 rules_text, _, elsewhere = read(RULES).partition('\n## Names from elsewhere')
@@ -347,7 +367,7 @@ def check_places(where, text, edits):
                     if kinds and ('specs' if label == 'definition' else 'proofs') not in kinds:
                         fault(where, f'`{crate}/{file} {name}` stands in {kinds[0]}, so it is no {label.rstrip("s")}')
             elif label == 'promise' and token in fns and token not in publics:
-                fault(where, f'`{token}` is not public, or of a test crate')
+                fault(where, f'`{token}` is not public, stands in a private module, or is of a test crate')
             elif label == 'test' and sort != 'file':
                 fault(where, f'`{token}` is no file')
             elif label == 'model' and sort not in ('tape', 'file'):

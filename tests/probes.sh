@@ -4,8 +4,8 @@
 set -eu
 cd "$(dirname "$0")/.."
 mkdir -p target/host
-rt staticlib probes > target/host/probes.log 2>&1 || { cat target/host/probes.log; exit 1; }
-for program in leaves dealing; do
+tests/archive
+for program in leaves records dealing; do
   rustc --edition 2021 -O -D warnings "host/$program.rs" -L target/staticlib -l static=probes -o "target/host/$program"
   "target/host/$program" "$@"
 done

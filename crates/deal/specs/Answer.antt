@@ -1,4 +1,4 @@
--- What `deal` answers, and what it leaves in the room lent to it, for any groups and any room.
+-- What `deal` answers, and what it leaves in the room lent to it, for any groups and any room: rule 3.5 (document 01, part 3).
 use Prim.Native.Nat.{ℕ}
 use mathlib.Core.List.{List, [], _∷_}
 use mathlib.Core.Bool.{Bool, true, cond, _&&_}

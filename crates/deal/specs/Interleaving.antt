@@ -1,6 +1,6 @@
--- Interleaving (document 01, part 3; `interleave_endpoints` in the Rust). Its two aims are the draft's: after an endpoint comes one of the other
--- address family (5.3), and a protocol that is not critical is mixed in and not sorted apart (5.1.1). So endpoints stand in groups and are dealt in
--- rounds: a round gives the next member of each group that still has one, most preferred group first.
+-- Interleaving, rules 3.1 to 3.3 (document 01, part 3); `interleave_endpoints` in the Rust. Its two aims are the draft's: after an endpoint
+-- comes one of the other address family (5.3), and a protocol that is not critical is mixed in and not sorted apart (5.1.1). So endpoints stand
+-- in groups and are dealt in rounds: a round gives the next member of each group that still has one, most preferred group first.
 use Prim.Native.Nat.{ℕ, zero, suc, _+_, _*_, _/_, _%_, _<_}
 use mathlib.Core.Path.{_≡_}
 use mathlib.Core.Logic.{_⊎_}

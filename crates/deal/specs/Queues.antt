@@ -1,4 +1,4 @@
--- What the dealing code keeps: eight queues with room for 272 positions each in one array, and how many each holds.
+-- What the dealing code keeps for rule 3.2 (document 01, part 3): eight queues with room for 272 positions each in one array, and their lengths.
 use Prim.Native.Nat.{ℕ, _+_, _*_, _<_, _≤_}
 use mathlib.Core.Path.{_≡_}
 use mathlib.Core.List.{List, map}

@@ -1,11 +1,11 @@
 -- Filling a room with references one after the other, and what that comes to for an order that was dealt.
-use Prim.Native.Nat.{ℕ, _+_, _≤_, _<_}
+use Prim.Native.Nat.{ℕ, _+_, _-_, _≤_, _<_}
 use mathlib.Core.Path.{_≡_, refl, sym, ap, _∙_}
 use mathlib.Core.Bool.{Bool, true, false}
 use mathlib.Core.List.{List, [], _∷_, _++_, map, append-assoc, map-append}
 use native.Mathlib.Numerals.{add-one}
 use native.Mathlib.Omega.{arith}
-use lib.ListN.{length, take, getD, set, length-append, length-map}
+use lib.ListN.{length, take, getD, set, length-append, length-map, replicate}
 use lib.Seq.{take-suc, length-take-le, getD-take}
 use Rattle.deal.specs.Interleaving.{interleave, order, Grouped}
 use Rattle.deal.proofs.Laws.{by-order, order-below, length-order, group-below}
@@ -22,27 +22,10 @@ use Rattle.records.proofs.Rooms.{padded-set, padded-take, map-same, padded-at}
 use Rattle.listing.specs.declared.runs.Undealt.{Undealt}
 use Rattle.listing.specs.declared.runs.DealtOrder.{DealtOrder}
 use Rattle.listing.specs.declared.Tier.{Tier}
-use Rattle.listing.specs.declared.Listing.{Listing}
 use Rattle.listing.specs.Items.{familyOf, groupOf}
-use Rattle.listing.specs.Room.{listed, heldItems, grouped, tiered, tierMembers}
+use Rattle.listing.specs.Room.{grouped, tiered, tierMembers}
 
-module _ (l : Listing) (e : l ≡ listed (heldItems l)) where
-  pub held-count : l .count ≡ length (heldItems l)
-  unfolding listed
-  held-count = ap (λ x. x .count) e
-
-  pub held-list : l .list ≡ padded 272 noItem (heldItems l)
-  unfolding listed
-  held-list = ap (λ x. x .list) e
-
--- what a listing holds is what was put into it, and so it is with a tier
-pub held-listed : (xs : List Item) → heldItems (listed xs) ≡ xs
-unfolding listed
-held-listed xs = padded-take noItem 272 xs
-
-pub listed-again : (xs : List Item) (l : Listing) → l ≡ listed xs → l ≡ listed (heldItems l)
-listed-again xs l e = e ∙ ap listed (sym (ap heldItems e ∙ held-listed xs))
-
+-- what a tier has is what was put into it
 pub members-tiered : (xs : List Item) (t : Tier) → t ≡ tiered xs → tierMembers t ≡ xs
 unfolding tiered
 members-tiered xs t e = ap tierMembers e ∙ padded-take noItem 80 xs
@@ -50,6 +33,10 @@ members-tiered xs t e = ap tierMembers e ∙ padded-take noItem 80 xs
 pub count-tiered : (xs : List Item) (t : Tier) → t ≡ tiered xs → t .count ≡ length xs
 unfolding tiered
 count-tiered xs t e = ap (λ x. x .count) e
+
+pub long-tiered : (xs : List Item) (t : Tier) → t ≡ tiered xs → length xs ≤ length (t .list)
+unfolding tiered padded
+long-tiered xs t e = let f : length (t .list) ≡ length xs + length (replicate (80 - length xs) noItem) = ap (λ x. length (x .list)) e ∙ length-append xs (replicate (80 - length xs) noItem) in omega arith
 
 pub map-id : {A : Type 0} (xs : List A) → map (λ x. x) xs ≡ xs
 map-id [] = refl

@@ -1,4 +1,4 @@
--- What a reader of the listing may rely on: its size, its members, when none is left, what it depends on, and the family of each reference.
+-- What a reader of the listing may rely on: its members, what of the records it depends on, and the family of each reference.
 use Prim.Native.Nat.{ℕ, _+_}
 use mathlib.Core.Path.{_≡_, refl, sym, ap, _∙_, subst}
 use mathlib.Core.Logic.{⊎-elim}
@@ -103,7 +103,7 @@ module _ (r : Rules) (a : Alts) (q : Queries) (s : Services) (n : Same) (x : Ite
   unfolding itemsToAttempt
   member-listed t m h = each-mem (dealt r) (tiers r a q s n) t m (dealt-all r x t h)
 
--- Of the records the listing reads only what is known of each: not ids, moments, staleness or refreshes (what it reads of the rules: Endpoints).
+-- Of the records the listing reads only what is known of each: not ids, moments, staleness or refreshes.
 -- what counts of a record: its type, its name, whether it is answered, how many addresses it holds
 pub record Known : Type 0 where
   pub kind : Kind
@@ -127,50 +127,63 @@ unfolding firstHeld isHeld found matches
 found-is same kind place i [] = refl
 found-is same kind place i (q ∷ l) = ap (cond (isFor kind (q .kind) (q .answer) && same (q .name) place) (record { query = i; count = heldCount (q .answer) })) (found-is same kind place (i + 1) l)
 
-module _ (n : Same) (q p : Queries) (same : map known (take (q .count) (q .list)) ≡ map known (take (p .count) (p .list))) where
-  held-same : (kind : Kind) (w : ℕ) → heldAt n q kind w ≡ heldAt n p kind w
-  unfolding heldAt
-  held-same kind w = found-is n kind w 0 (take (q .count) (q .list)) ∙ ap (found (matches n kind w) 0) same ∙ sym (found-is n kind w 0 (take (p .count) (p .list)))
-
-  targets-same : (w : ℕ) → heldTargets n q w ≡ heldTargets n p w
-  unfolding heldTargets
-  targets-same w = rw (held-same Aaaa w, held-same A w)
-
+-- what is held for each place settles the listing
+module _ (n m : Same) (q p : Queries) (targets-same : (w : ℕ) → heldTargets n q w ≡ heldTargets m p w) where
   module _ (r : Rules) where
-    origin-same : originTargets r q n ≡ originTargets r p n
+    origin-same : originTargets r q n ≡ originTargets r p m
     unfolding originTargets
     origin-same = by-host (r .host)
       where
-        by-host : (h : Host) → originOf (byName (r .mode)) q n h ≡ originOf (byName (r .mode)) p n h
+        by-host : (h : Host) → originOf (byName (r .mode)) q n h ≡ originOf (byName (r .mode)) p m h
         by-host host.Named = ap (cond (byName (r .mode)) (oneTarget (Name 0))) (targets-same 0)
         by-host (host.V4 x) = refl
         by-host (host.V6 x y) = refl
 
-    own-same : (w : ℕ) (h : Host) → ownTargets r q n w h ≡ ownTargets r p n w h
+    own-same : (w : ℕ) (h : Host) → ownTargets r q n w h ≡ ownTargets r p m w h
     own-same w host.Named = ap (cond (byName (r .mode)) (oneTarget (Name w))) (targets-same w)
     own-same w (host.V4 x) = refl
     own-same w (host.V6 x y) = refl
 
-    alt-same : (w : ℕ) (h : AltHost) → altTargets r q n w h ≡ altTargets r p n w h
+    alt-same : (w : ℕ) (h : AltHost) → altTargets r q n w h ≡ altTargets r p m w h
     alt-same w alt.Origin = origin-same
     alt-same w (alt.Own h) = own-same w h
 
-    alts-same : (i : ℕ) (l : List Alt) → altsFrom r q n i l ≡ altsFrom r p n i l
+    alts-same : (i : ℕ) (l : List Alt) → altsFrom r q n i l ≡ altsFrom r p m i l
     unfolding altsFrom altRuns
     alts-same i [] = refl
     alts-same i (a ∷ l) = rw (alt-same (i + 1) (a .host), alts-same (i + 1) l)
 
-    last-same : (a : Alts) → lastRuns r a q n ≡ lastRuns r a p n
+    last-same : (a : Alts) → lastRuns r a q n ≡ lastRuns r a p m
     unfolding lastRuns originRuns
     last-same a = rw (alts-same 0 (take (a .count) (a .list)), origin-same)
 
-    service-same : (i : ℕ) (s : Service) → serviceRuns r q n i s ≡ serviceRuns r p n i s
+    service-same : (i : ℕ) (s : Service) → serviceRuns r q n i s ≡ serviceRuns r p m i s
     unfolding serviceRuns serviceHeld
     service-same i s = rw (targets-same (s .name))
 
-    pub held-only : (a : Alts) (s : Services) → itemsToAttempt r a q s n ≡ itemsToAttempt r a p s n
+    same-listing : (a : Alts) (s : Services) → itemsToAttempt r a q s n ≡ itemsToAttempt r a p s m
     unfolding itemsToAttempt tiers serviceTiers
-    held-only a s =
+    same-listing a s =
         rw (last-same a)
-        (ap (λ l. each (dealt r) (l ++ cond (anyEch (r .ech) s) [] (tierItems (lastRuns r a p n) ∷ [])))
-        (map-same (λ i. tierItems (serviceRuns r q n i (serviceAt s i))) (λ i. tierItems (serviceRuns r p n i (serviceAt s i))) (usable (r .ech) s) (λ i. ap tierItems (service-same i (serviceAt s i)))))
+        (ap (λ l. each (dealt r) (l ++ cond (anyEch (r .ech) s) [] (tierItems (lastRuns r a p m) ∷ [])))
+        (map-same (λ i. tierItems (serviceRuns r q n i (serviceAt s i))) (λ i. tierItems (serviceRuns r p m i (serviceAt s i))) (usable (r .ech) s) (λ i. ap tierItems (service-same i (serviceAt s i)))))
+
+-- so does what is known of each record,
+held-same : (n : Same) (q p : Queries) → map known (take (q .count) (q .list)) ≡ map known (take (p .count) (p .list)) → (kind : Kind) (w : ℕ) → heldAt n q kind w ≡ heldAt n p kind w
+unfolding heldAt
+held-same n q p same kind w = found-is n kind w 0 (take (q .count) (q .list)) ∙ ap (found (matches n kind w) 0) same ∙ sym (found-is n kind w 0 (take (p .count) (p .list)))
+
+pub held-only : (n : Same) (q p : Queries) → map known (take (q .count) (q .list)) ≡ map known (take (p .count) (p .list)) → (r : Rules) (a : Alts) (s : Services) → itemsToAttempt r a q s n ≡ itemsToAttempt r a p s n
+unfolding heldTargets
+held-only n q p same r a s = same-listing n n q p targets r a s
+  where
+    targets : (w : ℕ) → heldTargets n q w ≡ heldTargets n p w
+    targets w = rw (held-same n q p same Aaaa w, held-same n q p same A w)
+
+-- and without a record no name is looked up
+pub none-held : (n m : Same) (q : Queries) → q .count ≡ 0 → (r : Rules) (a : Alts) (s : Services) → itemsToAttempt r a q s n ≡ itemsToAttempt r a q s m
+unfolding heldTargets heldAt firstHeld
+none-held n m q e r a s = same-listing n m q q targets r a s
+  where
+    targets : (w : ℕ) → heldTargets n q w ≡ heldTargets m q w
+    targets w = rw (e)

@@ -17,10 +17,13 @@ use Rattle.listing.specs.Held.{Same}
 use Rattle.records.specs.Lists.{each}
 use Rattle.records.specs.Rules.{noAlt}
 use Rattle.listing.specs.Items.{runItems}
-use Rattle.listing.specs.Listing.{combined, quic, hostRuns, tierItems, altRuns, altsFrom, originRuns, lastRuns}
+use Rattle.listing.specs.Listing.{combined, quic, nothing, hostRuns, tierItems, altRuns, altsFrom, originRuns, lastRuns}
 use Rattle.listing.specs.Room.{ranked, hostRunsIf, bothRuns, atRanks, altRunsAt}
 use Rattle.records.specs.declared.endpoints.Rank.{Rank}
 use Rattle.records.specs.declared.names.EchPlace.{EchPlace}
+use Rattle.records.specs.declared.names.EchPlace.the-variants.{Without}
+use Rattle.records.specs.declared.endpoints.Rank.the-variants as rank
+use Rattle.listing.specs.declared.runs.HostRuns.{HostRuns}
 use Rattle.listing.specs.declared.hosts.HostTargets.{HostTargets}
 use Rattle.listing.specs.declared.versions.Ranks.{Ranks}
 use Rattle.listing.specs.declared.runs.Run.{Run}
@@ -98,3 +101,11 @@ last-five r a q n e =
     ap (λ l. tierItems (l ++ originRuns r q n)) (alts-four r q n a e)
     ∙ ap tierItems (simp append-assoc)
     ∙ five (altRunsAt r q n a 0) (altRunsAt r q n a 1) (altRunsAt r q n a 2) (altRunsAt r q n a 3) (originRuns r q n)
+
+-- where there is no alternative service its runs are empty, as are the code's
+pub none-runs : (x : HostRuns) → x ≡ hostRunsIf false nothing 0 Without rank.H3 → tierItems (bothRuns x) ≡ tierItems []
+none-runs x e = ap (λ y. tierItems (bothRuns y)) e ∙ runs-if false nothing 0 Without rank.H3
+
+pub alt-none : (r : Rules) (q : Queries) (n : Same) (a : Alts) (i : ℕ) → a .count ≡ 0 → tierItems (altRunsAt r q n a i) ≡ tierItems []
+unfolding altRunsAt
+alt-none r q n a i e = rw (e, le-ltb i 0 (omega arith))

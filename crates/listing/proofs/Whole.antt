@@ -2,15 +2,15 @@
 use Prim.Native.Nat.{ℕ, zero, suc, _+_, _*_, _≤_, _<_}
 use mathlib.Core.Path.{_≡_, refl, sym, ap, _∙_}
 use mathlib.Core.Bool.{Bool, true, false, cond}
-use mathlib.Core.List.{List, [], _∷_, _++_, map, map-map}
+use mathlib.Core.List.{List, [], _∷_, _++_, map, map-map, append-nil}
 use native.Mathlib.Numerals.{add-one}
 use native.Mathlib.Decide.{decLt}
 use native.Mathlib.Omega.{arith}
-use lib.ListN.{length, take, drop, getD, length-append, length-map, List·getD-append, List·getD-eq-default, take-append-drop}
+use lib.ListN.{length, take, drop, getD, set, length-append, length-map, List·getD-append, List·getD-eq-default, take-append-drop}
 use lib.Seq.{take-suc, take-all, getD-append-add}
 use Rattle.deal.specs.Interleaving.{interleave, upto}
 use Rattle.deal.proofs.Laws.{map-upto}
-use Rattle.records.specs.Lists.{each, firstOf, firstSome}
+use Rattle.records.specs.Lists.{each, firstOf, firstSome, padded}
 use Rattle.records.specs.References.{noItem}
 use Rattle.records.proofs.First.{first-each}
 use Rattle.records.proofs.Rooms.{padded-past}
@@ -25,10 +25,10 @@ use Rattle.listing.specs.declared.Tier.{Tier}
 use Rattle.listing.specs.declared.Listing.{Listing}
 use Rattle.listing.specs.Held.{Same}
 use Rattle.listing.specs.Listing.{serviceAt, serviceRuns, lastRuns, usable, tierItems, serviceTiers, tiers, dealt, tierCount, tierAt, itemsToAttempt}
-use Rattle.listing.specs.Room.{listed, heldItems, tiered, tierMembers}
+use Rattle.listing.specs.Room.{listed, tiered}
 use Rattle.listing.proofs.Tiers.{each-append, each-one, each-none, each-map}
 use Rattle.listing.proofs.Bounds.{service-le, last-le}
-use Rattle.listing.proofs.Appending.{dealt-length, held-listed, listed-again, members-tiered, count-tiered}
+use Rattle.listing.proofs.Appending.{dealt-length, members-tiered, count-tiered, long-tiered, map-id, fill-more}
 use Rattle.listing.proofs.Priorities.{usable-four}
 
 pub length-dealt : (r : Rules) (xs : List Item) → length (dealt r xs) ≡ length xs
@@ -168,38 +168,57 @@ module _ (r : Rules) (a : Alts) (q : Queries) (s : Services) (n : Same) where
       let f : length (each (dealt r) (take k l ++ drop k l)) ≡ length (each (dealt r) l) = ap (λ x. length (each (dealt r) x)) (take-append-drop k l) in
       omega arith
 
-  -- what the code has listed after k tiers
-  pub record Listed (k : ℕ) (l : Listing) : Type 0 where
+  -- what the code has filled after k tiers
+  pub record Filled (k at : ℕ) (list : List Item) : Type 0 where
     pub within : k ≤ 5
-    pub holds : l ≡ listed (before k)
+    pub place : at ≡ length (before k)
+    pub holds : list ≡ padded 272 noItem (before k)
 
-  pub listed-none : (l : Listing) → l ≡ listed [] → Listed 0 l
-  listed-none l e = record { within = omega arith; holds = e ∙ ap listed (sym before-none) }
+  pub filled-none : (l : Listing) → l ≡ listed [] → Filled 0 0 (l .list)
+  unfolding listed
+  filled-none l e = record { within = omega arith; place = sym (ap length before-none); holds = ap (λ x. x .list) e ∙ ap (padded 272 noItem) (sym before-none) }
 
-  module _ (k : ℕ) (l : Listing) (v : Listed k l) where
-    pub listed-held : l ≡ listed (heldItems l)
-    listed-held = listed-again (before k) l (v .holds)
+  -- and j references of the next one
+  pub record Next (k : ℕ) (t : Tier) (j at : ℕ) (list : List Item) : Type 0 where
+    pub within : j ≤ t .count
+    pub place : at ≡ length (before k) + j
+    pub holds : list ≡ padded 272 noItem (before k ++ map (λ x. x) (take j (t .list)))
 
-    holds-before : heldItems l ≡ before k
-    holds-before = ap heldItems (v .holds) ∙ held-listed (before k)
+  pub next-none : (k at : ℕ) (t : Tier) (list : List Item) → Filled k at list → Next k t 0 at list
+  next-none k at t list v = record { within = omega arith; place = v .place ∙ omega arith; holds = v .holds ∙ ap (padded 272 noItem) (sym (append-nil (before k))) }
 
-    module _ (t : Tier) (h : k < tierCount r s) (e : t ≡ tiered (tierAt r a q s n k)) where
-      pub listed-fits : length (a .list) ≡ 4 → length (s .list) ≡ 4 → (t .count ≤ 80) × (l .count + t .count ≤ 272)
-      unfolding listed
-      listed-fits four rooms = (
-        omega (arith, count-tiered (tierAt r a q s n k) t e, tier-few four rooms k),
-        omega (arith, count-tiered (tierAt r a q s n k) t e, ap (λ x. x .count) (v .holds), ap length (before-more k h), length-append (before k) (tierAt r a q s n k), before-le (k + 1), at-most-272 four rooms),
-      )
+  module _ (k : ℕ) (t : Tier) (h : k < tierCount r s) (e : t ≡ tiered (tierAt r a q s n k)) where
+    module _ (four : length (a .list) ≡ 4) (rooms : length (s .list) ≡ 4) where
+      pub next-few : t .count ≤ 80
+      next-few = omega (arith, count-tiered (tierAt r a q s n k) t e, tier-few four rooms k)
 
-      pub listed-more : (m : Listing) → k < 5 → m ≡ listed (heldItems l ++ tierMembers t) → Listed (k + 1) m
-      listed-more m g p = record { within = omega arith; holds = p ∙ ap listed (ap (λ x. x ++ tierMembers t) holds-before ∙ (ap (λ x. before k ++ x) (members-tiered (tierAt r a q s n k) t e) ∙ sym (before-more k h))) }
+      pub next-room : length (before k) + t .count ≤ 272
+      next-room = omega (arith, count-tiered (tierAt r a q s n k) t e, ap length (before-more k h), length-append (before k) (tierAt r a q s n k), before-le (k + 1), at-most-272 four rooms)
 
-    pub listed-end : tierCount r s ≤ k → l ≡ listed (itemsToAttempt r a q s n)
-    listed-end h = v .holds ∙ ap listed (before-all k h)
+    module _ (j at : ℕ) (list : List Item) (v : Next k t j at list) where
+      pub next-more : j < t .count → at < 272 → Next k t (j + 1) (at + 1) (set list at (getD (t .list) j noItem))
+      next-more l room =
+          let m : j < length (t .list) = omega (arith, count-tiered (tierAt r a q s n k) t e, long-tiered (tierAt r a q s n k) t e) in
+          record { within = omega arith; place = omega (arith, v .place); holds = fill-more 272 noItem (before k) (λ x. x) (t .list) j at list (v .holds) (v .place) m room }
 
-    pub listed-full : length (s .list) ≡ 4 → 5 ≤ k → l ≡ listed (itemsToAttempt r a q s n)
+      pub next-end : k < 5 → t .count ≤ j → Filled (k + 1) at list
+      next-end l m =
+          let c : j ≡ t .count = omega (arith, v .within) in
+          let f : before k ++ map (λ x. x) (take j (t .list)) ≡ before (k + 1) = ap (λ x. before k ++ x) (map-id (take j (t .list)) ∙ (ap (λ i. take i (t .list)) c ∙ members-tiered (tierAt r a q s n k) t e)) ∙ sym (before-more k h) in
+          record {
+            within = omega arith;
+            place = omega (arith, v .place, count-tiered (tierAt r a q s n k) t e, ap length (before-more k h), length-append (before k) (tierAt r a q s n k));
+            holds = v .holds ∙ ap (padded 272 noItem) f;
+          }
+
+  module _ (k at : ℕ) (list : List Item) (v : Filled k at list) where
+    pub filled-end : tierCount r s ≤ k → record { count = at; list = list } ≡ listed (itemsToAttempt r a q s n)
+    unfolding listed
+    filled-end h = λ j. record { count = (v .place ∙ ap length (before-all k h)) j; list = (v .holds ∙ ap (padded 272 noItem) (before-all k h)) j }
+
+    pub filled-full : length (s .list) ≡ 4 → 5 ≤ k → record { count = at; list = list } ≡ listed (itemsToAttempt r a q s n)
     unfolding tierCount
-    listed-full rooms h = listed-end (omega (arith, usable-four (r .ech) s rooms, at-most-one (anyEch (r .ech) s)))
+    filled-full rooms h = filled-end (omega (arith, usable-four (r .ech) s rooms, at-most-one (anyEch (r .ech) s)))
 
 -- The first of the listing that passes a test is that of the first tier that has one; there is none exactly if no tier has one (records, First).
 module _ (r : Rules) (a : Alts) (q : Queries) (s : Services) (n : Same) where

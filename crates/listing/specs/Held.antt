@@ -1,4 +1,5 @@
--- What is held for a name. `same` says of two places among the names whether they hold the same name (`records`, sameAt).
+-- What is held for a name: rule 4.11 (document 01, part 4). `same` says of two places among the names whether they hold the same name (rule S.7;
+-- `records`, sameAt).
 use Prim.Native.Nat.{ℕ, _+_, min}
 use mathlib.Core.Bool.{Bool, cond, _&&_}
 use mathlib.Core.List.{List, [], _∷_}

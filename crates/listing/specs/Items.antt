@@ -1,4 +1,4 @@
--- Runs of listed endpoints, and the group in which each is dealt.
+-- Runs of listed endpoints: rule 4.13 (document 01, part 4); and the group in which each is dealt: rule 3.1 (document 01, part 3).
 use Prim.Native.Nat.{ℕ}
 use mathlib.Core.Bool.{Bool, cond}
 use mathlib.Core.List.{List, map}

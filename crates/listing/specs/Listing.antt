@@ -1,11 +1,11 @@
--- The listing, document 01 part 4 as the Rust has it (`endpoints_to_attempt`): which endpoints are attempted, and in which order.
+-- The listing as the Rust has it (`endpoints_to_attempt`): which endpoints are attempted, in which order. Rules 4.1 to 4.15 (document 01, part 4).
 -- Each sentence of part 4 and its definition, from the whole down (docs/DIFFERENCES.md, 1 to 3, has what the Rust corrects):
---     "Services by priority, stable" ordered; "each interleaved alone" dealt, itemsToAttempt; "skip those without ECH .." records' anyEch, usable
---     "Unless so, then alternative services and origin together" tiers, lastRuns
---     (H) "A service's endpoints" serviceHeld, serviceHints, serviceRuns; its versions fromHttpVersions, enabled
---     (H) "Origin fallback" originTargets, originRuns; (H) "A host's addresses" Held.heldAt
---     "An alternative service" altTargets, altRuns; the name of a by-name endpoint is records' connectName
--- `same` says of two places among the names whether they hold the same name.
+--     "Services by priority, stable" ordered; "each interleaved alone" dealt, itemsToAttempt (rules 4.5 and 4.15)
+--     "skip those without ECH .." records' anyEch, usable (rule 4.6); "Unless so, then alternative services and origin together" tiers, lastRuns
+--     (H) "A service's endpoints" serviceHeld, serviceHints, serviceRuns (rules 4.7 and 4.8); its versions fromHttpVersions, enabled (rule 4.3)
+--     (H) "Origin fallback" originTargets, originRuns (rule 4.9); (H) "A host's addresses" Held.heldAt (rule 4.11)
+--     "An alternative service" altTargets, altRuns (rule 4.10); the name of a by-name endpoint is records' connectName (rule 4.12)
+-- `same` says of two places among the names whether they hold the same name (rule S.7).
 use Prim.Native.Nat.{ℕ, _+_, min}
 use mathlib.Core.Bool.{Bool, true, false, cond, _&&_}
 use mathlib.Core.List.{List, [], _∷_, _++_, map}

@@ -1,4 +1,5 @@
--- What the code keeps: lists in rooms, with what is unused zero. A reader needs `listed`, `tiered` and `ranked` of it, which promises cite.
+-- What the code keeps: lists in rooms, with what is unused zero (rules S.2 and S.8). A reader needs `listed` and `tiered` of it, which public
+-- promises cite, and `ranked`: rule 4.3 (document 01, part 4).
 use Prim.Native.Nat.{ℕ, _≤_, _<_}
 use mathlib.Core.Path.{_≡_}
 use mathlib.Core.Bool.{Bool, false, cond}
@@ -73,10 +74,7 @@ atRanks held hints k port ech =
 unfoldable pub altRunsAt : Rules → Queries → Same → Alts → ℕ → List Run
 altRunsAt r q same a i = cond (ltb i (a .count)) (altRuns r q same i (getD (a .list) i noAlt)) []
 
--- what a listing holds, and what a tier has
-abbrev pub heldItems : Listing → List Item
-heldItems l = take (l .count) (l .list)
-
+-- what a tier has
 abbrev pub tierMembers : Tier → List Item
 tierMembers t = take (t .count) (t .list)
 

@@ -219,6 +219,11 @@ fn origin_runs(r: Rules, queries: Queries, same: SameNames) -> HostRuns
 fn last_runs(r: Rules, alts: Alts, queries: Queries, same: SameNames) -> Runs
     ensures { λ t. ⌜ tierItems (t .list) ≡ tierItems (lastRuns r alts queries (sameClass same)) ⌝ }
 {
+    // most configurations have none, and each call below copies what it reads
+    if alts.count == 0 {
+        let z = no_host_runs();
+        return runs_of(z, z, z, z, origin_runs(r, queries, same));
+    }
     runs_of(
         alt_runs(r, queries, same, alts, 0),
         alt_runs(r, queries, same, alts, 1),

@@ -1,4 +1,4 @@
--- Fields of a body (document 01, "Refusal numbers"): read left to right, the first fault given; a length is tested before its bytes.
+-- Fields of a body, rules B.1 to B.4 (document 01, "Refusal numbers"): read in order, the first fault given; a length is tested before its bytes.
 use mathlib.Core.Bool.{cond}
 use Prim.Native.Nat.{ℕ, _+_}
 use mathlib.Core.List.{List}

@@ -1,5 +1,6 @@
--- Forms of a number (document 01: "only the shortest form"): every way to say it in groups of seven bits, and what it is for bytes to start with
--- the shortest. proofs/Shortest.antt has the laws: what is written is a form, every other is longer, and what Cut and BadNumber mean.
+-- Forms of a number, rules N.2 and N.3 (document 01: "only the shortest form"): every way to say it in groups of seven bits, and what it is for
+-- bytes to start with the shortest. proofs/Shortest.antt has the laws: what is written is a form, every other is longer, and what Cut and
+-- BadNumber mean.
 use Prim.Native.Nat.{ℕ, _+_, _*_, _^_, _<_}
 use mathlib.Core.Path.{_≡_}
 use mathlib.Core.List.{List, [], _∷_, _++_}

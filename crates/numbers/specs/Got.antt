@@ -1,4 +1,4 @@
--- What reading a field gives: a value with the place after it, or one of document 01's refusal numbers.
+-- What reading a field gives (rule B.1): a value with the place after it, or one of document 01's refusal numbers (rule R.1).
 use Prim.Native.Nat.{ℕ}
 
 pub data Got (A : Type 0) : Type 0 where

@@ -1,5 +1,5 @@
--- Names (document 01, "Sizes"). Without one dot at its end, a name is split at its dots into labels; each is of 1 to 63 letters, digits, `-` or
--- `_`, and the last has a byte that is no digit.
+-- Names, rules S.1 and S.5 (document 01, "Sizes"). Without one dot at its end, a name is split at its dots into labels; each is of 1 to 63
+-- letters, digits, `-` or `_`, and the last has a byte that is no digit.
 use Prim.Native.Nat.{ℕ}
 use mathlib.Core.Bool.{Bool, true, _&&_, _||_, not, cond}
 use mathlib.Core.List.{List, [], _∷_}

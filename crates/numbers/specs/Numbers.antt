@@ -1,5 +1,5 @@
--- A number on a tape (document 01, "Numbers and bodies"): groups of seven bits, the lowest first, one to a byte. A byte of 128 or more says
--- that the number goes on. A last group of 0 after others is not the shortest form; a tenth byte above 1 is past 64 bits.
+-- A number on a tape, rules N.1 to N.3 (document 01, "Numbers and bodies"): groups of seven bits, the lowest first, one to a byte. A byte of 128
+-- or more says that the number goes on. A last group of 0 after others is not the shortest form; a tenth byte above 1 is past 64 bits.
 use mathlib.Core.Bool.{cond}
 use Prim.Native.Nat.{ℕ, zero, suc, _+_, _*_, _/_, _%_}
 use mathlib.Core.List.{List, [], _∷_}

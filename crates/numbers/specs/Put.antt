@@ -1,4 +1,4 @@
--- Writing bytes into a lent buffer at a place: what is answered, and what the buffer holds after it.
+-- Writing bytes into a lent buffer at a place (rule R.4): what is answered, and what the buffer holds after it.
 use mathlib.Core.Bool.{cond}
 use Prim.Native.Nat.{ℕ, _+_}
 use mathlib.Core.List.{List}

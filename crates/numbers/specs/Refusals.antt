@@ -1,4 +1,4 @@
--- The refusal table of document 01 ("Refusal numbers"): each number has a name, and the definitions cite the name.
+-- The refusal table, rule R.1 (document 01, "Refusal numbers"): each number has a name, and the definitions cite the name.
 use Prim.Native.Nat.{ℕ}
 use mathlib.Core.List.{List, [], _∷_}
 use Rattle.numbers.specs.declared.refusal.Refusal.{Refusal}

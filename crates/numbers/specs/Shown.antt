@@ -1,4 +1,4 @@
--- Document 01's number and values for each case of the answers that are enums.
+-- Document 01's number and values for each case of the answers that are enums (rule P.2).
 use Prim.Native.Nat.{ℕ}
 use Rattle.numbers.specs.Got.{Got, got, refused}
 use Rattle.numbers.specs.Put as put

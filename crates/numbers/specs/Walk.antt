@@ -1,4 +1,4 @@
--- What the loop of `name_ok` keeps: a name walked byte by byte. That it says what `nameOk` says is proved (proofs/NameWalk.antt).
+-- What the loop of `name_ok` keeps: a name walked byte by byte (rule S.5). That it says what `nameOk` says is proved (proofs/NameWalk.antt).
 use Prim.Native.Nat.{ℕ, _+_}
 use mathlib.Core.Bool.{Bool, _&&_, cond}
 use mathlib.Core.List.{List, [], _∷_}

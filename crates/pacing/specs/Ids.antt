@@ -1,4 +1,4 @@
--- Ids (document 01, part 1): start at 0; the next number after 18,446,744,073,709,551,615 is 0.
+-- Ids, rules 1.1 and 1.2 (document 01, part 1): the first is 0, each is one more than the one before, and 2^64 - 1 is followed by 0.
 use Prim.Native.Nat.{_+_, _%_, _^_}
 use Rattle.pacing.specs.declared.id.IdGenerator.{IdGenerator}
 use Rattle.pacing.specs.declared.id.Issued.{Issued}

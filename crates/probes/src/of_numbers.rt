@@ -44,7 +44,7 @@ fn tell_span(r: SpanRead, words: &mut [u64]) -> u8
     }
 }
 
-fn tell_wrote(r: Wrote, words: &mut [u64]) -> u8
+pub fn tell_wrote(r: Wrote, words: &mut [u64]) -> u8
     ensures answer { λ n. ⌜ n ≡ putNumber (wroteShown r) ⌝ }
     ensures values { λ _. ⌜ now (words .exit) ≡ filled (now (words .entry)) (putWords (wroteShown r)) ⌝ }
 {

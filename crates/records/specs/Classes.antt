@@ -1,4 +1,4 @@
--- Which places hold the same name, by number. Of a relation it is asked only that it is an equivalence (proofs/Classes.antt).
+-- Which places hold the same name, by number (rule S.7). Of a relation it is asked only that it is an equivalence (proofs/Classes.antt).
 use Prim.Native.Nat.{ℕ, zero, suc, _+_}
 use mathlib.Core.Bool.{Bool, cond}
 use mathlib.Core.List.{List, [], _∷_}

@@ -1,4 +1,4 @@
--- Endpoints with their bytes, and when two are the same: target, port, rank and ECH bytes.
+-- Endpoints with their bytes, and when two are the same: target, port, rank and ECH bytes. Rule 4.2 (document 01, part 4); targets: rule B.10.
 use Prim.Native.Nat.{ℕ}
 use mathlib.Core.Bool.{Bool, true, false, _&&_}
 use mathlib.Core.List.{List, [], _∷_}

@@ -1,4 +1,4 @@
--- Lists made of lists, tests over a list, and a list in a fixed room.
+-- Lists made of lists, tests over a list, and a list in a fixed room. Rules 4.14 and 4.15 (document 01, part 4); zeros: rule S.8.
 use Prim.Native.Nat.{ℕ, _-_}
 use mathlib.Core.Bool.{Bool, true, false, cond}
 use mathlib.Core.List.{List, [], _∷_, _++_}

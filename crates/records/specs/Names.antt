@@ -1,4 +1,5 @@
--- Names and ECH bytes: where they lie, when they are the same, and the host that a by-name endpoint connects to.
+-- Names and ECH bytes: where they lie, when they are the same (rule S.6), their zeros (rule S.8), and the host that a by-name endpoint connects to:
+-- rule 4.12 (document 01, part 4).
 use Prim.Native.Nat.{ℕ}
 use mathlib.Core.Bool.{Bool, true, false, cond, _&&_}
 use mathlib.Core.List.{List, [], _∷_}

@@ -1,4 +1,4 @@
--- Document 01's numbers for what an answer shows.
+-- Document 01's numbers for what an answer shows: rules B.5, B.10 and B.11.
 use Prim.Native.Nat.{ℕ}
 use Rattle.records.specs.declared.endpoints.Rank.{Rank}
 use Rattle.records.specs.declared.endpoints.Rank.the-variants as rank

@@ -1,4 +1,4 @@
--- Query records and the addresses of their answers.
+-- Query records and the addresses of their answers. Rules 4.11 and 4.13 (document 01, part 4); zeros: rule S.8.
 use Prim.Native.Nat.{ℕ}
 use mathlib.Core.Bool.{Bool, true, false, cond}
 use mathlib.Core.List.{[]}

@@ -1,4 +1,5 @@
--- References to endpoints: where a target is found, and what is read there. A place outside its table is empty.
+-- References to endpoints: where a target is found, and what is read there. Rule 4.13 (document 01, part 4). A place outside its table reads as
+-- the zero of its kind (rule S.8).
 use Prim.Native.Nat.{ℕ, _-_, _%_}
 use mathlib.Core.Bool.{cond}
 use lib.Dec.{eqb}

@@ -1,4 +1,4 @@
--- What the configuration says of families, modes and hosts.
+-- What the configuration says of families, modes and hosts. Rules 4.4 and 4.8 to 4.10 (document 01, part 4); its values: rule B.8.
 use mathlib.Core.Bool.{Bool, true, false}
 use lib.ListN.{replicate}
 use Rattle.records.specs.declared.rules.Alt.{Alt}

@@ -1,4 +1,4 @@
--- The services of the HTTPS answer that is held, and which of them are used.
+-- The services of the HTTPS answer that is held, and which of them are used. Rules 4.6 and 4.13 (document 01, part 4); zeros: rule S.8.
 use Prim.Native.Nat.{ℕ}
 use mathlib.Core.Bool.{Bool, true, false, cond, _&&_}
 use mathlib.Core.List.{List, []}

@@ -100,7 +100,7 @@ impl Asked<'_> {
     }
 
     fn named(&self) -> bool {
-        self.rule(0) % 4 == 0
+        self.rule(0) % 3 == 0
     }
 
     fn by_name(&self) -> bool {
@@ -117,7 +117,9 @@ impl Asked<'_> {
             let mut targets = self.both(name);
             if self.allows(V6) {
                 let six = service[HINTS_6 + 1..].chunks(ADDRESS);
-                targets.extend(six.take(service[HINTS_6].min(4) as usize).map(|a| target(V6, a)));
+                let six = six.take(service[HINTS_6].min(4) as usize);
+                // A hint has no scope.
+                targets.extend(six.map(|a| target(V6, &[a[0], a[1], 0])));
             }
             if self.allows(V4) {
                 let four = service[HINTS_4 + 1..].iter().take(service[HINTS_4].min(4) as usize);
@@ -141,12 +143,11 @@ impl Asked<'_> {
     }
 
     fn origin(&self) -> Targets {
-        match self.rule(0) % 4 {
+        match self.rule(0) % 3 {
             0 if self.by_name() => vec![[NAMED, 0, 0, 0]],
             0 => self.both(0),
             1 => vec![target(V4, &[0, self.rule(2), 0])],
-            2 => vec![target(V6, &[self.rule(1), self.rule(2), 0])],
-            _ => Vec::new(),
+            _ => vec![target(V6, &[self.rule(1), self.rule(2), 0])],
         }
     }
 

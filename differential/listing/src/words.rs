@@ -33,12 +33,13 @@ fn v6(numbers: &[u64]) -> String {
     }
 }
 
-fn host(flat: &Flat, numbers: &[u64], place: u64) -> String {
-    match numbers[0] % 4 {
+/// A host of that kind; an address in its two halves.
+fn host(flat: &Flat, kind: u64, halves: &[u64], place: u64) -> String {
+    match kind {
         0 => name(flat, place),
-        1 => v4(numbers[2]),
-        2 => v6(&numbers[1..3]),
-        _ => "no host".into(),
+        1 => v4(halves[1]),
+        2 => v6(&halves[..2]),
+        _ => "the origin's host".into(),
     }
 }
 
@@ -66,7 +67,7 @@ pub fn state(flat: &Flat) -> String {
     let n = &flat.numbers;
     let mut out = format!(
         "origin {}, port {}, {}, {}, mode {}, ECH {}\n",
-        host(flat, &n[RULES..], 0),
+        host(flat, n[RULES] % 3, &n[RULES + 1..], 0),
         n[RULES + 3],
         versions(n[RULES + 4]),
         word(&["v6 first", "v4 first", "v6 only", "v4 only"], n[RULES + 5]),
@@ -77,7 +78,8 @@ pub fn state(flat: &Flat) -> String {
     for i in 0..n[ALTS].min(4) as usize {
         let alt = &n[ALTS + 1 + ALT * i..];
         let version = word(&["H3", "H2", "H1"], alt[4]);
-        let _ = writeln!(out, "  {}, {}, {version}", host(flat, alt, 1 + i as u64), port(alt[3]));
+        let host = host(flat, alt[0] % 4, &alt[1..], 1 + i as u64);
+        let _ = writeln!(out, "  {host}, {}, {version}", port(alt[3]));
     }
     let _ = writeln!(out, "records: {}", used(n[QUERIES], 16));
     for i in 0..n[QUERIES].min(16) as usize {
@@ -113,8 +115,8 @@ fn service(flat: &Flat, n: &[u64]) -> String {
     };
     let four: Vec<String> =
         n[HINTS_4 + 1..].iter().take(n[HINTS_4].min(4) as usize).map(|a| v4(*a)).collect();
-    let six = n[HINTS_6 + 1..].chunks(ADDRESS).take(n[HINTS_6].min(4) as usize).map(v6);
-    let six: Vec<String> = six.collect();
+    let six = n[HINTS_6 + 1..].chunks(ADDRESS).take(n[HINTS_6].min(4) as usize);
+    let six: Vec<String> = six.map(|a| v6(&a[..2])).collect();
     format!(
         "priority {}, {}, {}, {}, {ech}, hints [{}] [{}]",
         n[0],

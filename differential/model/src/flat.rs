@@ -19,7 +19,7 @@ pub const ALT: usize = 5;
 pub const QUERY: usize = 4;
 pub const ADDRESS: usize = 3;
 pub const SERVICE: usize = 23;
-/// In a service: how many hints of IPv4, then 4 of them; the same of IPv6.
+/// In a service: how many hints of IPv4, then 4 of them; the same of IPv6, whose scope isn't read.
 pub const HINTS_4: usize = 5;
 pub const HINTS_6: usize = 10;
 /// Rooms for names, and the bytes of each.
@@ -140,7 +140,7 @@ fn rules(m: &State, out: &mut [u64]) {
     out[7] = rules.ech.into();
 }
 
-/// 0 name, 1 IPv4, 2 IPv6, 3 none; then the address in two halves.
+/// 0 name, 1 IPv4, 2 IPv6, 3 none (an alternative's: the origin's); then the address in two halves.
 fn host(host: Option<&Host>, out: &mut [u64]) {
     match host {
         Some(Host::Name(_)) => out[0] = 0,

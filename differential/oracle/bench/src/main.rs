@@ -20,7 +20,7 @@ const BATCHES: usize = 300;
 const BATCH_NS: f64 = 200_000.0;
 
 fn main() {
-    assert!(listing::THERE, "no archive of the proved listing: `rt staticlib states`");
+    assert!(listing::THERE, "no archive of the proved listing: `rt staticlib probes`");
     let mut races: Vec<Race> = states::all().iter().map(Race::at).collect();
     for _ in 0..TURNS {
         races.iter_mut().for_each(Race::run);
@@ -103,7 +103,8 @@ impl Race {
     }
 }
 
-/// Puts each record's name at the first place that holds it, as a machine does.
+/// Puts each record's name at the first place that holds it: the origin's records are at 0 even
+/// where a service has the origin's name. The choice sets how many names are compared by bytes.
 fn first_places(flat: &mut Flat) {
     for i in 0..flat.numbers[QUERIES] as usize {
         let at = QUERIES + 1 + QUERY * i + 1;

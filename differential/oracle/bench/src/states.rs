@@ -13,7 +13,7 @@ pub struct State {
 impl State {
     /// The answer to a query of a kind: 0 HTTPS, 1 AAAA, 2 A. Each name has addresses of its own.
     pub fn answer(&self, id: u64, kind: u64, name: &[u8]) -> Body {
-        let of = name[0];
+        let of = name.iter().fold(0, |sum: u8, byte| sum.wrapping_add(*byte));
         match kind {
             0 => Body::Https { id, flags: 0, items: self.services.clone() },
             1 => Body::Aaaa {
@@ -85,33 +85,23 @@ pub fn all() -> Vec<State> {
     ]
 }
 
-/// The longest listing with names as different as 16 records allow: 4 services of 48 endpoints, 4
+/// The longest listing with as many names as 16 records allow: 4 services of 48 endpoints, 4
 /// alternatives of 16, two of them without a host, and the origin's 16.
 fn deep() -> State {
-    let hosts = [
-        Host::Name(b"alternative-one.example.org".to_vec()),
-        Host::Name(b"one-more-alternative.example.org".to_vec()),
-        Host::None,
-        Host::None,
-    ];
-    let targets = [
-        "service-one.example.org",
-        "the-second-service.example.org",
-        "and-a-third-service.example.org",
-        "fourth-service.example.org",
-    ];
-    let services = targets.iter().zip(1..).map(|(name, n)| Service {
+    let service = |n: u8| Service {
         v4: (100..104).map(|k| v4(n, k)).collect(),
         v6: (100..104).map(|k| v6(n, k)).collect(),
-        ..Service::new(n.into(), name, H3_H2)
-    });
+        ..Service::new(n.into(), &format!("service-{n}.example.org"), H3_H2)
+    };
+    let named = |n: u8| Host::Name(format!("alternative-{n}.example.org").into());
+    let hosts = [named(1), named(2), Host::None, Host::None];
     State {
         name: "4 services, 4 alternatives, 8 + 8 addresses",
         configuration: Configuration {
             alternatives: hosts.map(|host| Alternative { host, port: None, version: 1 }).into(),
             ..Configuration::named(ORIGIN)
         },
-        services: services.collect(),
+        services: (1..5).map(service).collect(),
         addresses: 8,
     }
 }
