@@ -1,3 +1,3 @@
-pub mod Alike
 pub mod Surveys
+pub mod Noting
 pub mod Starting
