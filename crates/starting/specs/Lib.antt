@@ -1,3 +1,4 @@
+pub mod Alike
 pub mod Surveys
 pub mod Noting
 pub mod Starting

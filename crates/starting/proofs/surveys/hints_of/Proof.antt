@@ -63,7 +63,7 @@ loop-again c =
     let s = h .before .args .t1 in
     let k : h .loop .i < length (s .list) = omega (arith, has (h .before)) in
     let l = c .before .before .if1 .left in
-    (omega arith, either-next blankService (λ x. ltb 0 (x .n6)) (s .count) (s .list) (h .loop .i) _ _ (h .loop .inv .1) l k _ (c .before .either .ensures), either-next blankService (λ x. ltb 0 (x .n4)) (s .count) (s .list) (h .loop .i) _ _ (h .loop .inv .2) l k _ (c .either2 .ensures))
+    (omega arith, either-next blankService (λ x. ltb 0 (x .n6)) (s .count) (s .list) (h .loop .i) (h .loop .six) _ (h .loop .inv .1) l k _ (c .before .either .ensures), either-next blankService (λ x. ltb 0 (x .n4)) (s .count) (s .list) (h .loop .i) (h .loop .four) _ (h .loop .inv .2) l k _ (c .either2 .ensures))
 
 returns-2 : tie.Need-returns-2 Inv-loop μ-loop
 unfolding hintsOf

@@ -66,7 +66,7 @@ loop-again c =
     let a = h .before .args in
     let k : h .loop .i < length (a .t1 .list) = omega (arith, has (h .before)) in
     let l = e .before .before .before .if1 .left in
-    (omega arith, either-next noQuery (isAskedAt (sameClass (a .same)) Aaaa (a .place)) (a .t1 .count) (a .t1 .list) (h .loop .i) _ _ (h .loop .inv .1) l k _ (e .either .ensures ∙ ap (λ b. h .loop .six || b) (e .before .is-asked .ensures)), either-next noQuery (isAskedAt (sameClass (a .same)) A (a .place)) (a .t1 .count) (a .t1 .list) (h .loop .i) _ _ (h .loop .inv .2) l k _ (c .either2 .ensures ∙ ap (λ b. h .loop .four || b) (c .before .is-asked2 .ensures)))
+    (omega arith, either-next noQuery (isAskedAt (sameClass (a .same)) Aaaa (a .place)) (a .t1 .count) (a .t1 .list) (h .loop .i) (h .loop .six) _ (h .loop .inv .1) l k _ (e .either .ensures ∙ ap (λ b. h .loop .six || b) (e .before .is-asked .ensures)), either-next noQuery (isAskedAt (sameClass (a .same)) A (a .place)) (a .t1 .count) (a .t1 .list) (h .loop .i) (h .loop .four) _ (h .loop .inv .2) l k _ (c .either2 .ensures ∙ ap (λ b. h .loop .four || b) (c .before .is-asked2 .ensures)))
 
 returns-2 : tie.Need-returns-2 Inv-loop μ-loop
 unfolding askedFor

@@ -20,7 +20,7 @@ alts-wanted-requires c κs = search needs
 returns-2 : tie.Need-returns-2
 returns-2 c =
     let w = c .before .before in
-    rw (← w .before .targets-wanted .ensures, ← c .alts-wanted .ensures) (or-skip _ _ (sym (w .is-wanted .ensures) ∙ c .before .if1 .left))
+    rw (← w .before .targets-wanted .ensures, ← c .alts-wanted .ensures) (or-skip (w .before .targets-wanted .result) _ (sym (w .is-wanted .ensures) ∙ c .before .if1 .left))
 
 pub others-wanted-spec : {M : Type 1} → statement M
 others-wanted-spec =
