@@ -1,3 +1,5 @@
 pub mod Alike
 pub mod Surveys
+pub mod Noting
 pub mod Starting
+pub mod Wanted

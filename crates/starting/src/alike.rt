@@ -1,16 +1,12 @@
 // Which places hold the same host or the same ECH bytes: for each the first such place, 14 for the origin's host and 40 for no ECH bytes.
 // Decisions ask this in place of the bytes.
+ghost use mathlib.Core.Path.{_≡_};
+ghost use Rattle.starting.specs.Alike.{hostClass, echClass, alikeHosts, alikeEchs, alikeEndpoints};
 use records::endpoints::Endpoint;
 use records::endpoints::Target;
 use records::endpoints::same_head;
-use records::names::Ech;
 use records::names::EchPlace;
-use records::names::Echs;
-use records::names::Names;
 use records::names::SameNames;
-use records::names::same_connected;
-use records::names::same_ech;
-use records::names::same_names;
 
 pub struct SameHosts {
     pub list: [u8; 14],
@@ -27,90 +23,10 @@ pub struct Alike {
     pub echs: SameEchs,
 }
 
-// The class of a host that is first met at q; the origin's is 14.
-fn host_mark(q: usize) -> u8 {
-    if q == 0 {
-        return 14;
-    }
-    (q % 256) as u8
-}
-
-// The classes of hosts: names without their trailing dot, the origin's where a name is empty. Each is compared with those before it.
-pub fn same_hosts(names: Names) -> SameHosts {
-    let mut list = [0u8; 14];
-    let mut p: usize = 0;
-    let mut q: usize = 0;
-    let origin = names.list[0];
-    while p < 14 {
-        if q == p {
-            list[p] = host_mark(q);
-            p += 1;
-            q = 0;
-            continue;
-        }
-        let a = names.list[q];
-        let b = names.list[p];
-        if same_connected(origin, a, b) {
-            list[p] = host_mark(q);
-            p += 1;
-            q = 0;
-            continue;
-        }
-        q += 1;
-    }
-    SameHosts { list }
-}
-
-// How many ECH bytes there are.
-fn ech_len(e: Ech) -> usize {
-    if 512 < e.len { 512 } else { e.len }
-}
-
-// ECH bytes likewise; 40 for none.
-pub fn same_echs(echs: Echs) -> SameEchs {
-    let mut list = [0u8; 40];
-    let mut p: usize = 0;
-    let mut q: usize = 0;
-    while p < 40 {
-        let n = ech_len(echs.list[p]);
-        let m = ech_len(echs.list[q]);
-        if n == 0 {
-            list[p] = 40;
-            p += 1;
-            q = 0;
-            continue;
-        }
-        if q == p {
-            list[p] = p as u8;
-            p += 1;
-            q = 0;
-            continue;
-        }
-        if n == m {
-            let a = echs.list[q];
-            let b = echs.list[p];
-            if same_ech(a, b) {
-                list[p] = q as u8;
-                p += 1;
-                q = 0;
-                continue;
-            }
-        }
-        q += 1;
-    }
-    SameEchs { list }
-}
-
-pub fn alike_of(names: Names, echs: Echs) -> Alike {
-    Alike {
-        names: same_names(names),
-        hosts: same_hosts(names),
-        echs: same_echs(echs),
-    }
-}
-
 // The class of a place. Outside the table a host is the origin's, and ECH bytes are none.
-fn host_class(t: SameHosts, place: u8) -> u8 {
+fn host_class(t: SameHosts, place: u8) -> u8
+    ensures { λ r. ⌜ r ≡ hostClass t place ⌝ }
+{
     let p = place as usize;
     if p < 14 {
         return t.list[p];
@@ -118,7 +34,9 @@ fn host_class(t: SameHosts, place: u8) -> u8 {
     14
 }
 
-fn ech_class(t: SameEchs, place: u8) -> u8 {
+fn ech_class(t: SameEchs, place: u8) -> u8
+    ensures { λ r. ⌜ r ≡ echClass t place ⌝ }
+{
     let p = place as usize;
     if p < 40 {
         return t.list[p];
@@ -126,7 +44,9 @@ fn ech_class(t: SameEchs, place: u8) -> u8 {
     40
 }
 
-fn alike_hosts(t: SameHosts, a: Target, b: Target) -> bool {
+fn alike_hosts(t: SameHosts, a: Target, b: Target) -> bool
+    ensures { λ r. ⌜ r ≡ alikeHosts t a b ⌝ }
+{
     match a {
         Target::V4(_) => true,
         Target::V6(_, _, _) => true,
@@ -138,7 +58,9 @@ fn alike_hosts(t: SameHosts, a: Target, b: Target) -> bool {
     }
 }
 
-fn alike_echs(t: SameEchs, a: EchPlace, b: EchPlace) -> bool {
+fn alike_echs(t: SameEchs, a: EchPlace, b: EchPlace) -> bool
+    ensures { λ r. ⌜ r ≡ alikeEchs t a b ⌝ }
+{
     match a {
         EchPlace::Without => true,
         EchPlace::At(p) => match b {
@@ -149,7 +71,9 @@ fn alike_echs(t: SameEchs, a: EchPlace, b: EchPlace) -> bool {
 }
 
 // Whether two endpoints are one: by their numbers first, then by what is alike.
-pub fn alike_endpoints(hosts: SameHosts, echs: SameEchs, a: Endpoint, b: Endpoint) -> bool {
+pub fn alike_endpoints(hosts: SameHosts, echs: SameEchs, a: Endpoint, b: Endpoint) -> bool
+    ensures { λ r. ⌜ r ≡ alikeEndpoints hosts echs a b ⌝ }
+{
     if !same_head(a, b) {
         return false;
     }

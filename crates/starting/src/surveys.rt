@@ -1,4 +1,9 @@
 // One look at the records of each kind: what the decisions need of them.
+ghost use Prim.Native.Nat.{_+_, _<_};
+ghost use mathlib.Core.Bool.{_||_};
+ghost use mathlib.Core.Path.{_≡_};
+ghost use Rattle.starting.specs.Surveys.{soonerOf, triesOf, hasAddress, isFlying, isDue, asksOf, hintsOf};
+ghost use Rattle.starting.specs.Noting.{orPlace, placeIf, oneIf, laterIf, soonerBy, notedAttempt, noKinds, withKind, notedQuery};
 use records::queries::Answer;
 use records::queries::Kind;
 use records::queries::Queries;
@@ -56,7 +61,9 @@ pub struct Hinted {
     pub four: bool,
 }
 
-pub fn either(a: bool, b: bool) -> bool {
+pub fn either(a: bool, b: bool) -> bool
+    ensures { λ r. ⌜ r ≡ a || b ⌝ }
+{
     if a {
         return true;
     }
@@ -64,7 +71,9 @@ pub fn either(a: bool, b: bool) -> bool {
 }
 
 // The first of two places that is one.
-fn or_else(p: Place, on: bool, i: usize) -> Place {
+fn or_else(p: Place, on: bool, i: usize) -> Place
+    ensures { λ r. ⌜ r ≡ orPlace p (placeIf on i) ⌝ }
+{
     match p {
         Place::At(j) => Place::At(j),
         Place::Nowhere => {
@@ -76,7 +85,9 @@ fn or_else(p: Place, on: bool, i: usize) -> Place {
     }
 }
 
-fn later(m: Moment, on: bool, t: u64) -> Moment {
+fn later(m: Moment, on: bool, t: u64) -> Moment
+    ensures { λ r. ⌜ r ≡ laterIf m on t ⌝ }
+{
     if !on {
         return m;
     }
@@ -91,7 +102,9 @@ fn later(m: Moment, on: bool, t: u64) -> Moment {
     }
 }
 
-fn sooner(m: Moment, a: Answer) -> Moment {
+fn sooner(m: Moment, a: Answer) -> Moment
+    ensures { λ r. ⌜ r ≡ soonerBy m a ⌝ }
+{
     match a {
         Answer::Pending => m,
         Answer::Failed(t) => sooner_at(m, t),
@@ -99,7 +112,9 @@ fn sooner(m: Moment, a: Answer) -> Moment {
     }
 }
 
-fn sooner_at(m: Moment, t: u64) -> Moment {
+fn sooner_at(m: Moment, t: u64) -> Moment
+    ensures { λ r. ⌜ r ≡ soonerOf t m ⌝ }
+{
     match m {
         Moment::Never => Moment::At(t),
         Moment::At(u) => {
@@ -111,17 +126,18 @@ fn sooner_at(m: Moment, t: u64) -> Moment {
     }
 }
 
-// One attempt more in progress; there are at most 32.
-fn one_more(n: u64, on: bool) -> u64 {
-    if on {
-        if n < 32 {
-            return n + 1;
-        }
-    }
-    n
+// One attempt more in progress.
+fn one_more(n: u64, on: bool) -> u64
+    requires { ⌜ n < 32 ⌝ }
+    ensures { λ r. ⌜ r ≡ n + oneIf on ⌝ }
+{
+    if on { n + 1 } else { n }
 }
 
-fn noted_attempt(t: Tries, a: Attempt, i: usize) -> Tries {
+fn noted_attempt(t: Tries, a: Attempt, i: usize) -> Tries
+    requires { ⌜ t .active < 32 ⌝ }
+    ensures { λ r. ⌜ r ≡ notedAttempt t a i ⌝ }
+{
     let s = a.state;
     let on = is_open(s);
     let latest = t.latest;
@@ -134,7 +150,9 @@ fn noted_attempt(t: Tries, a: Attempt, i: usize) -> Tries {
     }
 }
 
-pub fn tries_of(attempts: Attempts) -> Tries {
+pub fn tries_of(attempts: Attempts) -> Tries
+    ensures { λ r. ⌜ r ≡ triesOf attempts ⌝ }
+{
     let n = attempts.count;
     let mut t = Tries {
         won: false,
@@ -154,7 +172,9 @@ pub fn tries_of(attempts: Attempts) -> Tries {
     t
 }
 
-fn no_kinds() -> Kinds {
+fn no_kinds() -> Kinds
+    ensures { λ r. ⌜ r ≡ noKinds ⌝ }
+{
     Kinds {
         https: false,
         aaaa: false,
@@ -163,7 +183,9 @@ fn no_kinds() -> Kinds {
 }
 
 // The types with one more, if it is on.
-fn with_kind(k: Kinds, kind: Kind, on: bool) -> Kinds {
+fn with_kind(k: Kinds, kind: Kind, on: bool) -> Kinds
+    ensures { λ r. ⌜ r ≡ withKind k kind on ⌝ }
+{
     match kind {
         Kind::Https => Kinds {
             https: either(k.https, on),
@@ -183,7 +205,9 @@ fn with_kind(k: Kinds, kind: Kind, on: bool) -> Kinds {
     }
 }
 
-fn has_address(a: Answer) -> bool {
+fn has_address(a: Answer) -> bool
+    ensures { λ r. ⌜ r ≡ hasAddress a ⌝ }
+{
     match a {
         Answer::Pending => false,
         Answer::Failed(_) => false,
@@ -191,7 +215,9 @@ fn has_address(a: Answer) -> bool {
     }
 }
 
-fn is_flying(r: Refresh) -> bool {
+fn is_flying(r: Refresh) -> bool
+    ensures { λ b. ⌜ b ≡ isFlying r ⌝ }
+{
     match r {
         Refresh::Idle => false,
         Refresh::InFlight(_) => true,
@@ -200,7 +226,9 @@ fn is_flying(r: Refresh) -> bool {
 }
 
 // A stale answer, a failed one too, is asked for anew once.
-fn is_due(stale: bool, r: Refresh) -> bool {
+fn is_due(stale: bool, r: Refresh) -> bool
+    ensures { λ b. ⌜ b ≡ isDue stale r ⌝ }
+{
     match r {
         Refresh::Idle => stale,
         Refresh::InFlight(_) => false,
@@ -208,7 +236,9 @@ fn is_due(stale: bool, r: Refresh) -> bool {
     }
 }
 
-fn noted_query(s: Asks, q: Query, i: usize) -> Asks {
+fn noted_query(s: Asks, q: Query, i: usize) -> Asks
+    ensures { λ r. ⌜ r ≡ notedQuery s q i ⌝ }
+{
     let k = q.kind;
     let a = q.answer;
     let r = q.refresh;
@@ -228,7 +258,9 @@ fn noted_query(s: Asks, q: Query, i: usize) -> Asks {
     }
 }
 
-pub fn asks_of(queries: Queries) -> Asks {
+pub fn asks_of(queries: Queries) -> Asks
+    ensures { λ r. ⌜ r ≡ asksOf queries ⌝ }
+{
     let n = queries.count;
     let mut s = Asks {
         asked: no_kinds(),
@@ -251,7 +283,9 @@ pub fn asks_of(queries: Queries) -> Asks {
     s
 }
 
-pub fn hints_of(services: Services) -> Hinted {
+pub fn hints_of(services: Services) -> Hinted
+    ensures { λ r. ⌜ r ≡ hintsOf services ⌝ }
+{
     let n = services.count;
     let mut six = false;
     let mut four = false;

@@ -1,0 +1,4 @@
+-- Laws that several proofs, and the crates above, cite.
+pub mod Noted
+pub mod Wanting
+pub mod Laws
