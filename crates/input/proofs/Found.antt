@@ -7,7 +7,7 @@ use native.Mathlib.Omega.{arith}
 use lib.Dec.{eqb}
 use lib.ListN.{length, take, getD, length-take}
 use lib.Seq.{getD-take}
-use borrow.Author.Tests.{eqb-true}
+use borrow.Author.Tests.{eqb-true, eqb-false}
 use Rattle.records.specs.Queries.{noQuery}
 use Rattle.records.specs.declared.queries.Query.{Query}
 use Rattle.records.specs.declared.queries.Queries.{Queries}
@@ -21,6 +21,7 @@ use Rattle.input.specs.declared.Asked.the-variants as who
 use Rattle.input.specs.declared.Tried.{Tried}
 use Rattle.input.specs.declared.Tried.the-variants as tries
 use Rattle.input.specs.Input.{inFlight, askedFrom, askedOf, triedFrom, triedOf, recordAt, attemptAt}
+use Rattle.input.specs.Verdicts.{recordsIn, attemptsIn, Owns, Refreshes, Lacks}
 
 -- a member of a list that is counted from i; no member
 module _ {A : Type 0} (d : A) (P : A → Type 0) where
@@ -54,23 +55,16 @@ module _ {A : Type 0} (d : A) (P : A → Type 0) where
       let z : j < length (take n l) = rw (length-take n l) h in
       rw (← getD-take n l j d q) (k j z)
 
--- a record that has the id as its own, or as that of a refresh in flight; one that doesn't
-abbrev pub Owns : ℕ → Query → Type 0
-Owns id x = x .id ≡ id
-
-abbrev pub Refreshes : ℕ → Query → Type 0
-Refreshes id x = x .refresh ≡ InFlight id
-
-abbrev pub Lacks : ℕ → Query → Type 0
-Lacks id x = (inFlight (x .refresh) id ≡ false) × (eqb (x .id) id ≡ false)
-
-false-not-true : false ≡ true → ⊥
-false-not-true e = let z : _≡_ {A = ℕ} 0 1 = cc in omega arith
+pub apart : false ≡ true → ⊥
+apart e = let z : _≡_ {A = ℕ} 0 1 = cc in omega arith
 
 in-flight : (r : Refresh) (id : ℕ) → inFlight r id ≡ true → r ≡ InFlight id
-in-flight Idle id e = absurd (false-not-true e)
-in-flight Done id e = absurd (false-not-true e)
+in-flight Idle id e = absurd (apart e)
+in-flight Done id e = absurd (apart e)
 in-flight (InFlight i) id e = ap InFlight (eqb-true i id e)
+
+not-flying : (r : Refresh) (id : ℕ) → inFlight r id ≡ false → r ≡ InFlight id → ⊥
+not-flying r id h e = eqb-false id id (rw e at h) refl
 
 abbrev From : ℕ → List Query → ℕ → Asked → Type 0
 From i l id who.Nobody = None noQuery (Lacks id) l
@@ -83,7 +77,7 @@ from i [] id = λ j h. absurd (omega arith)
 from i (x ∷ l) id = by (inFlight (x .refresh) id) (eqb (x .id) id) refl refl (from (i + 1) l id)
   where
     past : (w : Asked) → inFlight (x .refresh) id ≡ false → eqb (x .id) id ≡ false → From (i + 1) l id w → From i (x ∷ l) id w
-    past who.Nobody e f h = none-more noQuery (Lacks id) x l (e, f) h
+    past who.Nobody e f h = none-more noQuery (Lacks id) x l (eqb-false (x .id) id f, not-flying (x .refresh) id e) h
     past (who.Own p) e f h = later noQuery (Owns id) i x l p h
     past (who.Refresh p) e f h = later noQuery (Refreshes id) i x l p h
 
@@ -92,17 +86,10 @@ from i (x ∷ l) id = by (inFlight (x .refresh) id) (eqb (x .id) id) refl refl (
     by false true e f h = here noQuery (Owns id) i x l (eqb-true (x .id) id f)
     by false false e f h = past (askedFrom (i + 1) l id) e f h
 
--- how many records, and attempts, are in use
-abbrev pub inUse : Queries → ℕ
-inUse q = min (q .count) (length (q .list))
-
-abbrev pub made : Attempts → ℕ
-made a = min (a .count) (length (a .list))
-
 abbrev pub Found : Queries → ℕ → Asked → Type 0
-Found q id who.Nobody = (j : ℕ) → j < inUse q → Lacks id (recordAt q j)
-Found q id (who.Own p) = (p < inUse q) × Owns id (recordAt q p)
-Found q id (who.Refresh p) = (p < inUse q) × Refreshes id (recordAt q p)
+Found q id who.Nobody = (j : ℕ) → j < recordsIn q → Lacks id (recordAt q j)
+Found q id (who.Own p) = (p < recordsIn q) × Owns id (recordAt q p)
+Found q id (who.Refresh p) = (p < recordsIn q) × Refreshes id (recordAt q p)
 
 pub asked-found : (q : Queries) (id : ℕ) → Found q id (askedOf q id)
 unfolding askedOf
@@ -119,7 +106,7 @@ abbrev pub Is : ℕ → Attempt → Type 0
 Is id x = x .id ≡ id
 
 abbrev pub IsNot : ℕ → Attempt → Type 0
-IsNot id x = eqb (x .id) id ≡ false
+IsNot id x = x .id ≡ id → ⊥
 
 abbrev TriedFrom : ℕ → List Attempt → ℕ → Tried → Type 0
 TriedFrom i l id tries.Nobody = None noAttempt (IsNot id) l
@@ -131,7 +118,7 @@ tried-from i [] id = λ j h. absurd (omega arith)
 tried-from i (x ∷ l) id = by (eqb (x .id) id) refl (tried-from (i + 1) l id)
   where
     past : (w : Tried) → eqb (x .id) id ≡ false → TriedFrom (i + 1) l id w → TriedFrom i (x ∷ l) id w
-    past tries.Nobody e h = none-more noAttempt (IsNot id) x l e h
+    past tries.Nobody e h = none-more noAttempt (IsNot id) x l (eqb-false (x .id) id e) h
     past (tries.At p) e h = later noAttempt (Is id) i x l p h
 
     by : (b : Bool) → eqb (x .id) id ≡ b → TriedFrom (i + 1) l id (triedFrom (i + 1) l id) → TriedFrom i (x ∷ l) id (cond b (tries.At i) (triedFrom (i + 1) l id))
@@ -139,8 +126,8 @@ tried-from i (x ∷ l) id = by (eqb (x .id) id) refl (tried-from (i + 1) l id)
     by false e h = past (triedFrom (i + 1) l id) e h
 
 abbrev pub Had : Attempts → ℕ → Tried → Type 0
-Had a id tries.Nobody = (j : ℕ) → j < made a → IsNot id (attemptAt a j)
-Had a id (tries.At p) = (p < made a) × Is id (attemptAt a p)
+Had a id tries.Nobody = (j : ℕ) → j < attemptsIn a → IsNot id (attemptAt a j)
+Had a id (tries.At p) = (p < attemptsIn a) × Is id (attemptAt a p)
 
 pub tried-had : (a : Attempts) (id : ℕ) → Had a id (triedOf a id)
 unfolding triedOf
