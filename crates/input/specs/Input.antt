@@ -5,7 +5,6 @@ use mathlib.Core.Bool.{Bool, true, false, not, cond, _&&_}
 use mathlib.Core.List.{List, [], _∷_}
 use lib.Dec.{eqb, ltb}
 use lib.ListN.{getD}
-use Rattle.numbers.specs.declared.refusal.Refusal.{Refusal}
 use Rattle.numbers.specs.declared.refusal.Refusal.the-variants.{UnknownId, AlreadyAnswered, WrongType, StaleRefresh, EchNotSent, AlreadyEnded}
 use Rattle.records.specs.Numbers.{kindNumber}
 use Rattle.records.specs.Queries.{noQuery, answered}
@@ -89,10 +88,13 @@ firstAnswer q p k stale a = cond (answered (q .answer)) (Refused AlreadyAnswered
 unfoldable pub freshAnswer : Query → ℕ → Kind → Bool → Answer → Verdict
 freshAnswer q p k stale a = cond (isWrong k q) (Refused WrongType) (cond stale (Refused StaleRefresh) (Accepted (stored p (withAnswer q a false Done) a Second)))
 
+abbrev pub recordAt : Queries → ℕ → Query
+recordAt q p = getD (q .list) p noQuery
+
 abbrev pub answerBy : Queries → Kind → Bool → Answer → Asked → Verdict
 answerBy q k stale a who.Nobody = Refused UnknownId
-answerBy q k stale a (who.Own p) = firstAnswer (getD (q .list) p noQuery) p k stale a
-answerBy q k stale a (who.Refresh p) = freshAnswer (getD (q .list) p noQuery) p k stale a
+answerBy q k stale a (who.Own p) = firstAnswer (recordAt q p) p k stale a
+answerBy q k stale a (who.Refresh p) = freshAnswer (recordAt q p) p k stale a
 
 unfoldable pub answerVerdict : Queries → Kind → ℕ → Bool → Answer → Verdict
 answerVerdict q k id stale a = answerBy q k stale a (askedOf q id)

@@ -1,4 +1,6 @@
 // An input whose body is sound (document 01, part 7): which refusal of 7 to 12 it gets, or what it changes.
+ghost use mathlib.Core.Path.{_≡_};
+ghost use Rattle.input.specs.Input.{inFlight, askedOf, triedOf, withAnswer, isFailed, stored, firstAnswer, freshAnswer, answerVerdict, retryVerdict, outcomeVerdict, endVerdict, resultVerdict, verdictOf};
 use numbers::refusal::Refusal;
 use records::queries::Answer;
 use records::queries::Kind;
@@ -49,7 +51,9 @@ pub enum Outcome {
     EchRetry,
 }
 
-fn is_in_flight(r: Refresh, id: u64) -> bool {
+fn is_in_flight(r: Refresh, id: u64) -> bool
+    ensures { λ v. ⌜ v ≡ inFlight r id ⌝ }
+{
     match r {
         Refresh::Idle => false,
         Refresh::InFlight(i) => i == id,
@@ -58,7 +62,9 @@ fn is_in_flight(r: Refresh, id: u64) -> bool {
 }
 
 // The record that has the id, as its own or as a refresh in flight.
-fn asked_of(queries: Queries, id: u64) -> Asked {
+fn asked_of(queries: Queries, id: u64) -> Asked
+    ensures { λ v. ⌜ v ≡ askedOf queries id ⌝ }
+{
     let n = queries.count;
     let mut i: usize = 0;
     while i < 16 {
@@ -78,7 +84,9 @@ fn asked_of(queries: Queries, id: u64) -> Asked {
     Asked::Nobody
 }
 
-fn tried_of(attempts: Attempts, id: u64) -> Tried {
+fn tried_of(attempts: Attempts, id: u64) -> Tried
+    ensures { λ v. ⌜ v ≡ triedOf attempts id ⌝ }
+{
     let n = attempts.count;
     let mut i: usize = 0;
     while i < 32 {
@@ -95,7 +103,9 @@ fn tried_of(attempts: Attempts, id: u64) -> Tried {
 }
 
 // The record with an answer. After a refresh it is done.
-fn with_answer(q: Query, answer: Answer, stale: bool, refresh: Refresh) -> Query {
+fn with_answer(q: Query, answer: Answer, stale: bool, refresh: Refresh) -> Query
+    ensures { λ v. ⌜ v ≡ withAnswer q answer stale refresh ⌝ }
+{
     let k = q.kind;
     Query {
         id: q.id,
@@ -107,7 +117,9 @@ fn with_answer(q: Query, answer: Answer, stale: bool, refresh: Refresh) -> Query
     }
 }
 
-fn is_failed(a: Answer) -> bool {
+fn is_failed(a: Answer) -> bool
+    ensures { λ v. ⌜ v ≡ isFailed a ⌝ }
+{
     match a {
         Answer::Pending => false,
         Answer::Failed(_) => true,
@@ -116,7 +128,9 @@ fn is_failed(a: Answer) -> bool {
 }
 
 // What the record at p becomes, and with it the addresses or services.
-fn answered(p: usize, q: Query, answer: Answer, round: Round) -> Change {
+fn stored(p: usize, q: Query, answer: Answer, round: Round) -> Change
+    ensures { λ v. ⌜ v ≡ stored p q answer round ⌝ }
+{
     let k = q.kind;
     match k {
         Kind::Https => {
@@ -131,7 +145,9 @@ fn answered(p: usize, q: Query, answer: Answer, round: Round) -> Change {
 }
 
 // "a first answer tests 8, 9"
-fn first_answer(q: Query, p: usize, kind: Kind, stale: bool, answer: Answer) -> Verdict {
+fn first_answer(q: Query, p: usize, kind: Kind, stale: bool, answer: Answer) -> Verdict
+    ensures { λ v. ⌜ v ≡ firstAnswer q p kind stale answer ⌝ }
+{
     let a = q.answer;
     let k = q.kind;
     if is_answered(a) {
@@ -141,11 +157,13 @@ fn first_answer(q: Query, p: usize, kind: Kind, stale: bool, answer: Answer) -> 
         return Verdict::Refused(Refusal::WrongType);
     }
     let r = with_answer(q, answer, stale, Refresh::Idle);
-    Verdict::Accepted(answered(p, r, answer, Round::First))
+    Verdict::Accepted(stored(p, r, answer, Round::First))
 }
 
 // "a refresh 9, 10": its answer takes the place and the moment of the stale one.
-fn fresh_answer(q: Query, p: usize, kind: Kind, stale: bool, answer: Answer) -> Verdict {
+fn fresh_answer(q: Query, p: usize, kind: Kind, stale: bool, answer: Answer) -> Verdict
+    ensures { λ v. ⌜ v ≡ freshAnswer q p kind stale answer ⌝ }
+{
     let k = q.kind;
     if kind_number(k) != kind_number(kind) {
         return Verdict::Refused(Refusal::WrongType);
@@ -154,11 +172,13 @@ fn fresh_answer(q: Query, p: usize, kind: Kind, stale: bool, answer: Answer) -> 
         return Verdict::Refused(Refusal::StaleRefresh);
     }
     let r = with_answer(q, answer, false, Refresh::Done);
-    Verdict::Accepted(answered(p, r, answer, Round::Second))
+    Verdict::Accepted(stored(p, r, answer, Round::Second))
 }
 
 // An answer of a type to the query of an id.
-fn answer_verdict(queries: Queries, kind: Kind, id: u64, stale: bool, answer: Answer) -> Verdict {
+fn answer_verdict(queries: Queries, kind: Kind, id: u64, stale: bool, answer: Answer) -> Verdict
+    ensures { λ v. ⌜ v ≡ answerVerdict queries kind id stale answer ⌝ }
+{
     let w = asked_of(queries, id);
     match w {
         Asked::Nobody => Verdict::Refused(Refusal::UnknownId),
@@ -174,7 +194,9 @@ fn answer_verdict(queries: Queries, kind: Kind, id: u64, stale: bool, answer: An
 }
 
 // An ECH retry on an attempt in progress. "on an attempt that is itself one" it "only marks it failed".
-fn retry_verdict(on: bool, count: usize, p: usize, a: Attempt) -> Verdict {
+fn retry_verdict(on: bool, count: usize, p: usize, a: Attempt) -> Verdict
+    ensures { λ v. ⌜ v ≡ retryVerdict on count p a ⌝ }
+{
     let e = a.endpoint;
     let sealed = e.ech;
     if !on {
@@ -193,7 +215,9 @@ fn retry_verdict(on: bool, count: usize, p: usize, a: Attempt) -> Verdict {
     Verdict::Accepted(Change::Retries(p, failed, count))
 }
 
-fn outcome_verdict(on: bool, count: usize, p: usize, a: Attempt, outcome: Outcome) -> Verdict {
+fn outcome_verdict(on: bool, count: usize, p: usize, a: Attempt, outcome: Outcome) -> Verdict
+    ensures { λ v. ⌜ v ≡ outcomeVerdict on count p a outcome ⌝ }
+{
     match outcome {
         Outcome::Success => Verdict::Accepted(Change::Ends(p, with_state(a, State::Succeeded))),
         Outcome::Failure => Verdict::Accepted(Change::Ends(p, with_state(a, State::Failed))),
@@ -202,7 +226,9 @@ fn outcome_verdict(on: bool, count: usize, p: usize, a: Attempt, outcome: Outcom
 }
 
 // "an attempt 12, 11, but any result for a cancelled attempt is accepted and ignored"
-fn end_verdict(on: bool, count: usize, p: usize, a: Attempt, outcome: Outcome) -> Verdict {
+fn end_verdict(on: bool, count: usize, p: usize, a: Attempt, outcome: Outcome) -> Verdict
+    ensures { λ v. ⌜ v ≡ endVerdict on count p a outcome (a .state) ⌝ }
+{
     let s = a.state;
     match s {
         State::InProgress => outcome_verdict(on, count, p, a, outcome),
@@ -212,13 +238,9 @@ fn end_verdict(on: bool, count: usize, p: usize, a: Attempt, outcome: Outcome) -
     }
 }
 
-fn result_verdict(
-    on: bool,
-    attempts: Attempts,
-    count: usize,
-    id: u64,
-    outcome: Outcome,
-) -> Verdict {
+fn result_verdict(on: bool, attempts: Attempts, count: usize, id: u64, outcome: Outcome) -> Verdict
+    ensures { λ v. ⌜ v ≡ resultVerdict on attempts count id outcome ⌝ }
+{
     let w = tried_of(attempts, id);
     match w {
         Tried::Nobody => Verdict::Refused(Refusal::UnknownId),
@@ -237,7 +259,9 @@ pub fn verdict_of(
     retries: usize,
     input: Input,
     now: u64,
-) -> Verdict {
+) -> Verdict
+    ensures { λ v. ⌜ v ≡ verdictOf on queries attempts retries input now ⌝ }
+{
     match input {
         Input::Fails(k, id, stale) => answer_verdict(queries, k, id, stale, Answer::Failed(now)),
         Input::Holds(k, id, stale, n) => {
