@@ -1,8 +1,9 @@
--- Every proper input is accepted: an id that one record, or one attempt, alone has leads to it.
+-- Every proper input is accepted: an id that one record, or one attempt, alone has leads to it. One that none has is refused.
 use Prim.Native.Nat.{ℕ, _<_}
 use mathlib.Core.Path.{_≡_, refl, ap}
 use mathlib.Core.Bool.{Bool, false, cond}
 use borrow.Author.Tests.{eq-eqb}
+use Rattle.numbers.specs.declared.refusal.Refusal.the-variants.{UnknownId}
 use Rattle.records.specs.Queries.{answered}
 use Rattle.records.specs.declared.queries.Kind.{Kind}
 use Rattle.records.specs.declared.queries.Answer.{Answer}
@@ -17,15 +18,15 @@ use Rattle.state.specs.declared.attempts.Attempt.{Attempt}
 use Rattle.state.specs.declared.attempts.Attempts.{Attempts}
 use Rattle.state.specs.declared.changes.Change.the-variants as change
 use Rattle.state.specs.declared.changes.Round.the-variants.{First, Second}
-use Rattle.input.specs.declared.Verdict.the-variants.{Accepted}
+use Rattle.input.specs.declared.Verdict.the-variants.{Accepted, Refused}
 use Rattle.input.specs.declared.Asked.{Asked}
 use Rattle.input.specs.declared.Asked.the-variants as who
 use Rattle.input.specs.declared.Tried.{Tried}
 use Rattle.input.specs.declared.Tried.the-variants as tries
 use Rattle.input.specs.declared.Outcome.{Outcome}
 use Rattle.input.specs.declared.Outcome.the-variants as outcome
-use Rattle.input.specs.Input.{isWrong, stored, withAnswer, recordAt, askedOf, firstAnswer, freshAnswer, answerVerdict, attemptAt, triedOf, retryVerdict, outcomeVerdict, endVerdict, resultVerdict}
-use Rattle.input.specs.Verdicts.{recordsIn, attemptsIn, Owns, Refreshes, endOf, Fits, again}
+use Rattle.input.specs.Input.{isWrong, stored, withAnswer, recordAt, askedOf, firstAnswer, freshAnswer, answerBy, answerVerdict, attemptAt, triedOf, retryVerdict, outcomeVerdict, endVerdict, resultBy, resultVerdict}
+use Rattle.input.specs.Verdicts.{recordsIn, attemptsIn, Owns, Refreshes, Lacks, endOf, Fits, again}
 use Rattle.input.proofs.Found.{Found, asked-found, Had, tried-had}
 
 module _ (q : Queries) (id p : ℕ) (within : p < recordsIn q) where
@@ -53,6 +54,24 @@ finds-attempt a id p within own only = by (triedOf a id) (tried-had a id)
     by : (w : Tried) → Had a id w → w ≡ tries.At p
     by tries.Nobody h = absurd (h p within own)
     by (tries.At j) h = ap tries.At (only j (h .0) (h .1))
+
+-- "no query has that id", "no attempt has it"
+pub refuses-answer : (q : Queries) (k : Kind) (id : ℕ) (stale : Bool) (a : Answer) → ((j : ℕ) → j < recordsIn q → Lacks id (recordAt q j)) → answerVerdict q k id stale a ≡ Refused UnknownId
+unfolding answerVerdict
+refuses-answer q k id stale a none = by (askedOf q id) (asked-found q id)
+  where
+    by : (w : Asked) → Found q id w → answerBy q k stale a w ≡ Refused UnknownId
+    by who.Nobody h = refl
+    by (who.Own j) h = absurd (none j (h .0) .0 (h .1))
+    by (who.Refresh j) h = absurd (none j (h .0) .1 (h .1))
+
+pub refuses-result : (on : Bool) (a : Attempts) (n id : ℕ) (o : Outcome) → ((j : ℕ) → j < attemptsIn a → attemptAt a j .id ≡ id → ⊥) → resultVerdict on a n id o ≡ Refused UnknownId
+unfolding resultVerdict
+refuses-result on a n id o none = by (triedOf a id) (tried-had a id)
+  where
+    by : (w : Tried) → Had a id w → resultBy on a n o w ≡ Refused UnknownId
+    by tries.Nobody h = refl
+    by (tries.At j) h = absurd (none j (h .0) (h .1))
 
 -- the answer of the record's type that it waits for
 right-kind : (k : Kind) (x : Query) → x .kind ≡ k → isWrong k x ≡ false

@@ -83,7 +83,7 @@ module _ (q : Queries) (k : Kind) (id : ℕ) (stale : Bool) (a : Answer) (p : �
       by false true e f = (p, inside, own, right k (recordAt q p) e, f)
       by false false e f = record { place = p; within = inside; round = Second; waits = own; kind = right k (recordAt q p) e; fresh = f; kept = ap (λ s. stored p (withAnswer (recordAt q p) a s Done) a Second) (sym f) }
 
-answer-says : (q : Queries) (k : Kind) (id : ℕ) (stale : Bool) (a : Answer) → AnswerSays q k id stale a (answerVerdict q k id stale a)
+pub answer-says : (q : Queries) (k : Kind) (id : ℕ) (stale : Bool) (a : Answer) → AnswerSays q k id stale a (answerVerdict q k id stale a)
 unfolding answerVerdict
 answer-says q k id stale a = by (askedOf q id) (asked-found q id)
   where
@@ -122,7 +122,7 @@ module _ (on : Bool) (a : Attempts) (n id p : ℕ) (inside : p < attemptsIn a) (
       by state.Failed e = (p, inside, own, rw e)
       by state.Cancelled e = ended o _ (rw e)
 
-result-says : (on : Bool) (a : Attempts) (n id : ℕ) (o : Outcome) → ResultSays on a n id o (resultVerdict on a n id o)
+pub result-says : (on : Bool) (a : Attempts) (n id : ℕ) (o : Outcome) → ResultSays on a n id o (resultVerdict on a n id o)
 unfolding resultVerdict
 result-says on a n id o = by (triedOf a id) (tried-had a id)
   where
