@@ -2,3 +2,4 @@
 pub mod Noted
 pub mod Wanting
 pub mod Laws
+pub mod Nexts

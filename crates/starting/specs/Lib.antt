@@ -3,3 +3,4 @@ pub mod Surveys
 pub mod Noting
 pub mod Starting
 pub mod Wanted
+pub mod Next

@@ -1,52 +1,29 @@
--- Starting (document 01, part 5; `move_on_*`): when attempts may start, which queries are wanted, what is attempted next.
+-- What is attempted next (document 01, parts 4 to 6): the first retry, or the first of the listing, that wasn't attempted.
 -- `same` says of two places among the names whether they hold the same name, `alike` of two endpoints whether they are one.
-use Prim.Native.Nat.{ℕ, _+_, _-_}
-use mathlib.Core.Bool.{Bool, true, false, not, cond, _&&_, _||_}
-use mathlib.Core.List.{List, [], _∷_, _++_, map}
+use Prim.Native.Nat.{ℕ, _+_}
+use mathlib.Core.Bool.{Bool, true, false, not, cond}
+use mathlib.Core.List.{List, [], _∷_}
 use mathlib.Core.Option.{Option, none, some}
-use lib.Dec.{eqb, ltb, leb}
-use lib.ListN.{length, take, getD}
-use Rattle.pacing.specs.Pacing.{delayOf}
-use Rattle.records.specs.Lists.{each, some?, firstOf}
-use Rattle.records.specs.Rules.{prefersSix, withHttps, isNamed}
-use Rattle.records.specs.Services.{offered, anyEch, isUsable}
+use lib.Dec.{ltb}
+use lib.ListN.{getD}
+use Rattle.records.specs.Lists.{some?, firstOf}
+use Rattle.records.specs.References.{endpointOf}
+use Rattle.records.specs.declared.references.Item.{Item}
 use Rattle.records.specs.declared.names.EchPlace.the-variants.{At}
 use Rattle.records.specs.declared.rules.Rules.{Rules}
-use Rattle.records.specs.declared.rules.Timing.{Timing}
-use Rattle.records.specs.declared.rules.Mode.{Mode}
-use Rattle.records.specs.declared.rules.Mode.the-variants as mode
-use Rattle.records.specs.declared.rules.Preference.{Preference}
-use Rattle.records.specs.declared.rules.Preference.the-variants.{DualStackPreferV6, DualStackPreferV4, Ipv6Only, Ipv4Only}
-use Rattle.records.specs.declared.rules.Alt.{Alt}
 use Rattle.records.specs.declared.rules.Alts.{Alts}
-use Rattle.records.specs.declared.rules.AltHost.{AltHost}
-use Rattle.records.specs.declared.rules.AltHost.the-variants as alt
-use Rattle.records.specs.declared.queries.Kind.{Kind}
-use Rattle.records.specs.declared.queries.Kind.the-variants.{Https, Aaaa, A}
-use Rattle.records.specs.declared.queries.Query.{Query}
+use Rattle.records.specs.declared.queries.Kind.the-variants.{A}
 use Rattle.records.specs.declared.queries.Queries.{Queries}
 use Rattle.records.specs.declared.queries.Answers.{Answers}
-use Rattle.records.specs.declared.services.Service.{Service}
 use Rattle.records.specs.declared.services.Services.{Services}
 use Rattle.records.specs.declared.endpoints.Endpoint.{Endpoint}
 use Rattle.listing.specs.Held.{Same}
 use Rattle.listing.specs.Listing.{endpointsToAttempt}
-use Rattle.state.specs.State.{asked, tried, retriesOf, noAttempt, httpsPlace}
-use Rattle.state.specs.declared.attempts.Attempt.{Attempt}
+use Rattle.state.specs.State.{tried, retriesOf, noAttempt}
 use Rattle.state.specs.declared.attempts.Attempts.{Attempts}
 use Rattle.state.specs.declared.attempts.Retries.{Retries}
-use Rattle.starting.specs.declared.surveys.Moment.{Moment}
-use Rattle.starting.specs.declared.surveys.Moment.the-variants as moment
-use Rattle.starting.specs.declared.surveys.Tries.{Tries}
-use Rattle.starting.specs.declared.surveys.Asks.{Asks}
-use Rattle.starting.specs.declared.surveys.Hinted.{Hinted}
-use Rattle.starting.specs.declared.wanted.Wanted.{Wanted}
-use Rattle.starting.specs.declared.wanted.Wanted.the-variants as wanted
 use Rattle.starting.specs.declared.next.Next.{Next}
 use Rattle.starting.specs.declared.next.Next.the-variants as next
-use Rattle.starting.specs.Surveys.{isKind, starts}
-
--- Endpoints
 
 abbrev pub Alike : Type 0
 Alike = Endpoint → Endpoint → Bool
@@ -76,3 +53,27 @@ nextRetry alike a r = nextOf (firstOf (λ e. not (attempted alike a e)) (retryEn
 -- the first of the listing (part 4) that wasn't attempted
 unfoldable pub nextEndpoint : Alike → Rules → Alts → Queries → Answers → Services → Attempts → Same → Next
 nextEndpoint alike r l q d s a same = nextOf (firstOf (λ e. not (attempted alike a e)) (endpointsToAttempt r l q d s same))
+
+-- How the code looks for it, one after the other
+
+-- the first of two that is one
+abbrev pub orNext : Next → Next → Next
+orNext next.Nothing n = n
+orNext (next.New e) n = next.New e
+
+abbrev pub isNew : Next → Bool
+isNew next.Nothing = false
+isNew (next.New e) = true
+
+unfoldable pub firstNext : {A : Type 0} → (A → Next) → List A → Next
+firstNext f [] = next.Nothing
+firstNext f (x ∷ l) = orNext (f x) (firstNext f l)
+
+unfoldable pub ifNew : Alike → Attempts → Endpoint → Next
+ifNew alike a e = cond (attempted alike a e) next.Nothing (next.New e)
+
+unfoldable pub retryNew : Alike → Attempts → ℕ → Next
+retryNew alike a p = cond (ltb p 32) (ifNew alike a (retriedAt a p)) next.Nothing
+
+abbrev pub itemNew : Alike → Rules → Alts → Answers → Services → Attempts → Item → Next
+itemNew alike r l d s a x = ifNew alike a (endpointOf r l d s x)

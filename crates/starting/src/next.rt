@@ -1,9 +1,14 @@
 // The next endpoint: the first retry, or the first of the listing, that wasn't attempted.
+ghost use mathlib.Core.Path.{_≡_};
+ghost use Rattle.records.specs.Classes.{sameClass};
+ghost use Rattle.listing.specs.Room.{tierMembers};
+ghost use Rattle.starting.specs.Alike.{alikeEndpoints};
+ghost use Rattle.starting.specs.Next.{attempted, isNew, firstNext, ifNew, retriedWith, retryNew, itemNew, nextRetry, nextEndpoint};
 use super::alike::Alike;
 use super::alike::SameEchs;
 use super::alike::SameHosts;
 use super::alike::alike_endpoints;
-use listing::tier::Tier;
+use listing::Tier;
 use listing::tier_at;
 use listing::tier_count;
 use records::endpoints::Endpoint;
@@ -22,14 +27,18 @@ pub enum Next {
     New(Endpoint),
 }
 
-fn is_new(n: Next) -> bool {
+fn is_new(n: Next) -> bool
+    ensures { λ r. ⌜ r ≡ isNew n ⌝ }
+{
     match n {
         Next::Nothing => false,
         Next::New(_) => true,
     }
 }
 
-pub fn is_attempted(attempts: Attempts, hosts: SameHosts, echs: SameEchs, e: Endpoint) -> bool {
+pub fn is_attempted(attempts: Attempts, hosts: SameHosts, echs: SameEchs, e: Endpoint) -> bool
+    ensures { λ r. ⌜ r ≡ attempted (alikeEndpoints hosts echs) attempts e ⌝ }
+{
     let n = attempts.count;
     let mut i: usize = 0;
     while i < 32 {
@@ -46,8 +55,19 @@ pub fn is_attempted(attempts: Attempts, hosts: SameHosts, echs: SameEchs, e: End
     false
 }
 
+fn if_new(attempts: Attempts, hosts: SameHosts, echs: SameEchs, e: Endpoint) -> Next
+    ensures { λ r. ⌜ r ≡ ifNew (alikeEndpoints hosts echs) attempts e ⌝ }
+{
+    if is_attempted(attempts, hosts, echs, e) {
+        return Next::Nothing;
+    }
+    Next::New(e)
+}
+
 // An attempt's endpoint with the ECH bytes that came for it.
-fn retried(e: Endpoint, p: u8) -> Endpoint {
+fn retried(e: Endpoint, p: u8) -> Endpoint
+    ensures { λ r. ⌜ r ≡ retriedWith e p ⌝ }
+{
     let t = e.target;
     let k = e.rank;
     Endpoint {
@@ -58,8 +78,24 @@ fn retried(e: Endpoint, p: u8) -> Endpoint {
     }
 }
 
+// Those of attempt p lie at place 8 + p.
+fn retry_new(attempts: Attempts, hosts: SameHosts, echs: SameEchs, p: u8) -> Next
+    ensures { λ r. ⌜ r ≡ retryNew (alikeEndpoints hosts echs) attempts p ⌝ }
+{
+    if p < 32 {
+        let at = p as usize;
+        let a = attempts.list[at];
+        let was = a.endpoint;
+        let e = retried(was, 8 + p);
+        return if_new(attempts, hosts, echs, e);
+    }
+    Next::Nothing
+}
+
 // The first retry, in order of arrival, whose endpoint wasn't attempted.
-pub fn next_retry(attempts: Attempts, retries: Retries, alike: Alike) -> Next {
+pub fn next_retry(attempts: Attempts, retries: Retries, alike: Alike) -> Next
+    ensures { λ r. ⌜ r ≡ nextRetry (alikeEndpoints (alike .hosts) (alike .echs)) attempts retries ⌝ }
+{
     let hosts = alike.hosts;
     let echs = alike.echs;
     let n = retries.count;
@@ -68,15 +104,9 @@ pub fn next_retry(attempts: Attempts, retries: Retries, alike: Alike) -> Next {
         if n <= i {
             return Next::Nothing;
         }
-        let p = retries.list[i];
-        if p < 32 {
-            let at = p as usize;
-            let a = attempts.list[at];
-            let was = a.endpoint;
-            let e = retried(was, 8 + p);
-            if !is_attempted(attempts, hosts, echs, e) {
-                return Next::New(e);
-            }
+        let w = retry_new(attempts, hosts, echs, retries.list[i]);
+        if is_new(w) {
+            return w;
         }
         i += 1;
     }
@@ -90,11 +120,12 @@ fn first_new(
     answers: Answers,
     services: Services,
     attempts: Attempts,
-    alike: Alike,
+    hosts: SameHosts,
+    echs: SameEchs,
     tier: Tier,
-) -> Next {
-    let hosts = alike.hosts;
-    let echs = alike.echs;
+) -> Next
+    ensures { λ r. ⌜ r ≡ firstNext (itemNew (alikeEndpoints hosts echs) rules alts answers services attempts) (tierMembers tier) ⌝ }
+{
     let n = tier.count;
     let mut i: usize = 0;
     while i < 80 {
@@ -103,8 +134,9 @@ fn first_new(
         }
         let x = tier.list[i];
         let e = endpoint_at(rules, alts, answers, services, x);
-        if !is_attempted(attempts, hosts, echs, e) {
-            return Next::New(e);
+        let w = if_new(attempts, hosts, echs, e);
+        if is_new(w) {
+            return w;
         }
         i += 1;
     }
@@ -120,8 +152,12 @@ pub fn next_endpoint(
     services: Services,
     attempts: Attempts,
     alike: Alike,
-) -> Next {
+) -> Next
+    ensures { λ r. ⌜ r ≡ nextEndpoint (alikeEndpoints (alike .hosts) (alike .echs)) rules alts queries answers services attempts (sameClass (alike .names)) ⌝ }
+{
     let same = alike.names;
+    let hosts = alike.hosts;
+    let echs = alike.echs;
     let n = tier_count(rules, services);
     let mut k: usize = 0;
     while k < 5 {
@@ -129,7 +165,7 @@ pub fn next_endpoint(
             return Next::Nothing;
         }
         let t = tier_at(rules, alts, queries, services, same, k as u8);
-        let f = first_new(rules, alts, answers, services, attempts, alike, t);
+        let f = first_new(rules, alts, answers, services, attempts, hosts, echs, t);
         if is_new(f) {
             return f;
         }
