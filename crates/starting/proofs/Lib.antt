@@ -3,3 +3,4 @@ pub mod Noted
 pub mod Wanting
 pub mod Laws
 pub mod Nexts
+pub mod Classed

@@ -1,10 +1,9 @@
 -- Which places hold the same host, and which the same ECH bytes, by number: what decisions ask in place of the bytes.
-use Prim.Native.Nat.{ℕ, zero, suc, _+_}
-use mathlib.Core.Bool.{Bool, true, cond, _&&_}
-use mathlib.Core.List.{List, [], _∷_}
+use Prim.Native.Nat.{ℕ}
+use mathlib.Core.Bool.{Bool, true, _&&_}
 use lib.Dec.{eqb}
 use Rattle.records.specs.Lists.{cell}
-use Rattle.records.specs.Classes.{firstFrom, sameNames}
+use Rattle.records.specs.Classes.{classesFrom, sameNames}
 use Rattle.records.specs.Names.{sameBytes, hostAt, echBytesAt}
 use Rattle.records.specs.Endpoints.{sameHead}
 use Rattle.records.specs.declared.names.Names.{Names}
@@ -18,15 +17,6 @@ use Rattle.starting.specs.declared.alike.SameHosts.{SameHosts}
 use Rattle.starting.specs.declared.alike.SameEchs.{SameEchs}
 use Rattle.starting.specs.declared.alike.Alike.{Alike}
 
--- the class of a place of a table of n: the first place that is the same, and n for what is the same as a place outside
-unfoldable pub classIn : ℕ → (ℕ → ℕ → Bool) → ℕ → ℕ
-classIn n same p = cond (same n p) n (firstFrom (λ k. same k p) 0 n)
-
--- the classes of i, i + 1, .. i + k - 1
-unfoldable pub classesIn : ℕ → (ℕ → ℕ → Bool) → ℕ → ℕ → List ℕ
-classesIn n same i zero = []
-classesIn n same i (suc k) = classIn n same i ∷ classesIn n same (i + 1) k
-
 -- whether two places have the same host, and the same ECH bytes
 unfoldable pub sameHostAt : Names → ℕ → ℕ → Bool
 sameHostAt t p q = sameBytes (hostAt t p) (hostAt t q)
@@ -35,10 +25,10 @@ unfoldable pub sameEchAt : Echs → ℕ → ℕ → Bool
 sameEchAt t p q = sameBytes (echBytesAt t p) (echBytesAt t q)
 
 unfoldable pub sameHostsOf : Names → SameHosts
-sameHostsOf t = record { list = classesIn 14 (sameHostAt t) 0 14 }
+sameHostsOf t = record { list = classesFrom 14 (sameHostAt t) 0 14 }
 
 unfoldable pub sameEchsOf : Echs → SameEchs
-sameEchsOf t = record { list = classesIn 40 (sameEchAt t) 0 40 }
+sameEchsOf t = record { list = classesFrom 40 (sameEchAt t) 0 40 }
 
 unfoldable pub alikeOf : Names → Echs → Alike
 alikeOf n e = record { names = sameNames n; hosts = sameHostsOf n; echs = sameEchsOf e }
