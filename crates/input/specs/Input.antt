@@ -1,5 +1,5 @@
--- Input (document 01, part 7): "Then 7; a first answer tests 8, 9; a refresh 9, 10; an attempt 12, 11, but any result for a cancelled attempt
--- is accepted and ignored."
+-- Input (document 01, part 7): the refusals 7 to 12, in their order, and what an accepted input changes. After 7 a first answer is tested
+-- for 8, then 9, a refresh for 9, then 10, and a result for 12, then 11; a cancelled attempt takes any result, and nothing changes.
 use Prim.Native.Nat.{ℕ, _+_}
 use mathlib.Core.Bool.{Bool, true, false, not, cond, _&&_}
 use mathlib.Core.List.{List, [], _∷_}
@@ -114,7 +114,7 @@ outcomeVerdict on count p a outcome.Success = Accepted (change.Ends p (withState
 outcomeVerdict on count p a outcome.Failure = Accepted (change.Ends p (withState a state.Failed))
 outcomeVerdict on count p a outcome.EchRetry = retryVerdict on count p a
 
--- "12, 11, but any result for a cancelled attempt is accepted and ignored"
+-- 12 before 11; a cancelled attempt takes any result, "accepted and ignored"
 abbrev pub endVerdict : Bool → ℕ → ℕ → Attempt → Outcome → State → Verdict
 endVerdict on count p a o state.InProgress = outcomeVerdict on count p a o
 endVerdict on count p a o state.Succeeded = Refused AlreadyEnded

@@ -225,7 +225,7 @@ fn outcome_verdict(on: bool, count: usize, p: usize, a: Attempt, outcome: Outcom
     }
 }
 
-// "an attempt 12, 11, but any result for a cancelled attempt is accepted and ignored"
+// 12 before 11; a cancelled attempt takes any result, and nothing changes.
 fn end_verdict(on: bool, count: usize, p: usize, a: Attempt, outcome: Outcome) -> Verdict
     ensures { λ v. ⌜ v ≡ endVerdict on count p a outcome (a .state) ⌝ }
 {

@@ -59,7 +59,7 @@ resolutionMet delay (moment.At t) now = leb delay (elapsed now t)
 unfoldable pub someAddress : Asks → Hinted → Bool
 someAddress asks hinted = asks .address || (hinted .six || hinted .four)
 
--- (H) "A preferred hint is a non-empty hint list of the preferred family."; `wait_for_preferred_address` off drops this test only
+-- (H) the preferred type is answered, or a service has a hint of that family; `wait_for_preferred_address` off drops this test only
 unfoldable pub preferredSettled : Bool → Bool → Asks → Hinted → Bool
 preferredSettled wait six asks hinted = cond wait (cond six (asks .answered .aaaa || hinted .six) (asks .answered .a || hinted .four)) true
 
