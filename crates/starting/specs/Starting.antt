@@ -1,5 +1,4 @@
--- Starting (document 01, part 5; `move_on_*`): when attempts may start, which queries are wanted, what is attempted next.
--- `same` says of two places among the names whether they hold the same name, `alike` of two endpoints whether they are one.
+-- Starting (document 01, part 5; `move_on_*`): gate and timers, and whether endpoints may be attempted at all.
 use Prim.Native.Nat.{ℕ, _-_}
 use mathlib.Core.Bool.{Bool, true, false, cond, _&&_, _||_}
 use lib.Dec.{ltb, leb}

@@ -1,6 +1,8 @@
 -- `starting::next::retry_new` meets its contract.
+use mathlib.Core.Path.{ap, _∙_}
 use borrow.Author.Tests.{lt-ltb, le-ltb}
-use Rattle.starting.specs.Next.{retryNew}
+use Rattle.starting.specs.Alike.{alikeEndpoints}
+use Rattle.starting.specs.Next.{ifNew, retryNew}
 use borrow.Author.Needs.{needs}
 use Rattle.starting.proofs.next.retry_new.Statement.{statement}
 use Rattle.starting.proofs.next.retry_new.Tie as tie
@@ -24,7 +26,9 @@ returns : tie.Need-returns
 unfolding retryNew
 returns c =
     let e = c .before in
-    rw (lt-ltb _ _ (e .before .before .before .if1 .taken), ← e .retried .ensures) (c .if-new .ensures)
+    let s = e .before .before .before in
+    let a = s .before .args in
+    rw (lt-ltb _ _ (s .if1 .taken)) (c .if-new .ensures ∙ ap (ifNew (alikeEndpoints (a .hosts) (a .echs)) (a .t1)) (e .retried .ensures))
 
 returns-2 : tie.Need-returns-2
 unfolding retryNew
