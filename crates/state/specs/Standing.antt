@@ -1,5 +1,5 @@
--- The standing rules: one test of the whole machine, made of small ones. Each takes only the parts that it reads, so a step that leaves these
--- alone keeps it. The made machine passes, and every step keeps it.
+-- The standing rules: one test of the whole machine, made of small ones. Each takes only the parts that it reads, so that a step which leaves
+-- these alone keeps it. That the made machine passes and every step keeps it is still to be proved.
 use Prim.Native.Nat.{ℕ, _+_, _-_, _*_, _^_}
 use mathlib.Core.Bool.{Bool, true, false, not, cond}
 use mathlib.Core.List.{List, [], _∷_, _++_, map}
