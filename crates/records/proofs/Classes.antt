@@ -1,4 +1,4 @@
--- Two places are of one class exactly if they are the same, for any equivalence of places; how the classes of a table are found.
+-- Two places are of one class exactly if they are the same, for any equivalence of the places of a table of any size; how the classes are found.
 use Prim.Native.Nat.{ℕ, zero, suc, _+_, _≤_, _<_}
 use mathlib.Core.Path.{_≡_, refl, sym, ap, _∙_}
 use mathlib.Core.Bool.{Bool, true, false, cond}
@@ -53,22 +53,22 @@ first-same f g i zero e = refl
 first-same f g i (suc n) e = rw (e i, first-same f g (i + 1) n e)
 
 -- a place outside the table is the same as any other there
-pub record Table (same : ℕ → ℕ → Bool) : Type 0 where
+pub record Table (n : ℕ) (same : ℕ → ℕ → Bool) : Type 0 where
   pub alike : Equivalence same
-  pub outside : (p : ℕ) → 14 ≤ p → same 14 p ≡ true
+  pub outside : (p : ℕ) → n ≤ p → same n p ≡ true
 
-module _ (same : ℕ → ℕ → Bool) (t : Table same) where
+module _ (n : ℕ) (same : ℕ → ℕ → Bool) (t : Table n same) where
   -- a place is the same as its class
-  class-same : (p : ℕ) → same (classOf same p) p ≡ true
+  class-same : (p : ℕ) → same (classOf n same p) p ≡ true
   unfolding classOf
-  class-same p = go (same 14 p) refl
+  class-same p = go (same n p) refl
     where
-      inside : same 14 p ≡ false → p < 14
-      inside e = elim (decLt p 14) [ yes h ↦ h | no h ↦ absurd (let c : true ≡ false = sym (t .outside p (omega arith)) ∙ e in let z : _≡_ {A = ℕ} 0 1 = cc in omega arith) ]
+      inside : same n p ≡ false → p < n
+      inside e = elim (decLt p n) [ yes h ↦ h | no h ↦ absurd (let c : true ≡ false = sym (t .outside p (omega arith)) ∙ e in let z : _≡_ {A = ℕ} 0 1 = cc in omega arith) ]
 
-      go : (b : Bool) → same 14 p ≡ b → same (cond b 14 (firstFrom (λ k. same k p) 0 14)) p ≡ true
+      go : (b : Bool) → same n p ≡ b → same (cond b n (firstFrom (λ k. same k p) 0 n)) p ≡ true
       go true e = e
-      go false e = let z : 0 + p ≡ p = omega arith in first-passes (λ k. same k p) 0 14 p (inside e) (ap (λ k. same k p) z ∙ t .alike .itself p)
+      go false e = let z : 0 + p ≡ p = omega arith in first-passes (λ k. same k p) 0 n p (inside e) (ap (λ k. same k p) z ∙ t .alike .itself p)
 
   -- same places are seen as the same by all
   agree : (p q k : ℕ) → same p q ≡ true → same k p ≡ same k q
@@ -80,48 +80,48 @@ module _ (same : ℕ → ℕ → Bool) (t : Table same) where
       go false f true g = sym f ∙ t .alike .through k q p g (t .alike .back p q e)
       go false f false g = refl
 
-  same-class : (p q : ℕ) → same p q ≡ true → classOf same p ≡ classOf same q
+  same-class : (p q : ℕ) → same p q ≡ true → classOf n same p ≡ classOf n same q
   unfolding classOf
-  same-class p q e = rw (agree p q 14 e, first-same (λ k. same k p) (λ k. same k q) 0 14 (λ k. agree p q k e))
+  same-class p q e = rw (agree p q n e, first-same (λ k. same k p) (λ k. same k q) 0 n (λ k. agree p q k e))
 
-  class-to-same : (p q : ℕ) → classOf same p ≡ classOf same q → same p q ≡ true
-  class-to-same p q e = t .alike .through p (classOf same p) q (t .alike .back (classOf same p) p (class-same p)) (ap (λ k. same k q) e ∙ class-same q)
+  class-to-same : (p q : ℕ) → classOf n same p ≡ classOf n same q → same p q ≡ true
+  class-to-same p q e = t .alike .through p (classOf n same p) q (t .alike .back (classOf n same p) p (class-same p)) (ap (λ k. same k q) e ∙ class-same q)
 
-  by-class : (p q : ℕ) → eqb (classOf same p) (classOf same q) ≡ same p q
-  by-class p q = go (same p q) refl (eqb (classOf same p) (classOf same q)) refl
+  pub by-class : (p q : ℕ) → eqb (classOf n same p) (classOf n same q) ≡ same p q
+  by-class p q = go (same p q) refl (eqb (classOf n same p) (classOf n same q)) refl
     where
-      go : (b : Bool) → same p q ≡ b → (c : Bool) → eqb (classOf same p) (classOf same q) ≡ c → c ≡ b
+      go : (b : Bool) → same p q ≡ b → (c : Bool) → eqb (classOf n same p) (classOf n same q) ≡ c → c ≡ b
       go true e true f = refl
       go true e false f = sym f ∙ eq-eqb _ _ (same-class p q e)
       go false e true f = sym (class-to-same p q (eqb-true _ _ f)) ∙ e
       go false e false f = refl
 
 -- the classes of a table, place by place
-classes-length : (same : ℕ → ℕ → Bool) (i n : ℕ) → length (classesFrom same i n) ≡ n
+classes-length : (n : ℕ) (same : ℕ → ℕ → Bool) (i m : ℕ) → length (classesFrom n same i m) ≡ m
 unfolding classesFrom
-classes-length same i zero = refl
-classes-length same i (suc n) = ap suc (classes-length same (i + 1) n)
+classes-length n same i zero = refl
+classes-length n same i (suc m) = ap suc (classes-length n same (i + 1) m)
 
-classes-at : (same : ℕ → ℕ → Bool) (i n k : ℕ) → k < n → getD (classesFrom same i n) k 0 ≡ classOf same (i + k)
+pub classes-at : (n : ℕ) (same : ℕ → ℕ → Bool) (i m k : ℕ) → k < m → getD (classesFrom n same i m) k 0 ≡ classOf n same (i + k)
 unfolding classesFrom
-classes-at same i zero k l = absurd (omega arith)
-classes-at same i (suc n) zero l = let z : i ≡ i + 0 = omega arith in ap (classOf same) z
-classes-at same i (suc n) (suc k) l = let w : i + 1 + k ≡ i + suc k = omega arith in classes-at same (i + 1) n k (omega arith) ∙ ap (classOf same) w
+classes-at n same i zero k l = absurd (omega arith)
+classes-at n same i (suc m) zero l = let z : i ≡ i + 0 = omega arith in ap (classOf n same) z
+classes-at n same i (suc m) (suc k) l = let w : i + 1 + k ≡ i + suc k = omega arith in classes-at n same (i + 1) m k (omega arith) ∙ ap (classOf n same) w
 
 -- how far the code has come: places below p have their class, and none of the places below q is the same as p
-pub record Classed (same : ℕ → ℕ → Bool) (list : List ℕ) (p q : ℕ) : Type 0 where
-  pub within : p ≤ 14
+pub record Classed (n : ℕ) (same : ℕ → ℕ → Bool) (list : List ℕ) (p q : ℕ) : Type 0 where
+  pub within : p ≤ n
   pub behind : q ≤ p
-  pub long : length list ≡ 14
-  pub done : (k : ℕ) → k < p → getD list k 0 ≡ classOf same k
+  pub long : length list ≡ n
+  pub done : (k : ℕ) → k < p → getD list k 0 ≡ classOf n same k
   pub none : (k : ℕ) → k < q → same k p ≡ false
 
-pub classed-none : (same : ℕ → ℕ → Bool) (list : List ℕ) → length list ≡ 14 → Classed same list 0 0
-classed-none same list e = record { within = omega arith; behind = omega arith; long = e; done = λ k h. absurd (omega arith); none = λ k h. absurd (omega arith) }
+pub classed-none : (n : ℕ) (same : ℕ → ℕ → Bool) (list : List ℕ) → length list ≡ n → Classed n same list 0 0
+classed-none n same list e = record { within = omega arith; behind = omega arith; long = e; done = λ k h. absurd (omega arith); none = λ k h. absurd (omega arith) }
 
-module _ (same : ℕ → ℕ → Bool) (list : List ℕ) (p q : ℕ) (c : Classed same list p q) where
+module _ (n : ℕ) (same : ℕ → ℕ → Bool) (list : List ℕ) (p q : ℕ) (c : Classed n same list p q) where
   -- the class of p is found, and the next place is looked at
-  classed-found : (v : ℕ) → p < 14 → v ≡ classOf same p → Classed same (set list p v) (p + 1) 0
+  classed-found : (v : ℕ) → p < n → v ≡ classOf n same p → Classed n same (set list p v) (p + 1) 0
   classed-found v h e =
       record {
         within = omega arith;
@@ -131,28 +131,28 @@ module _ (same : ℕ → ℕ → Bool) (list : List ℕ) (p q : ℕ) (c : Classe
         none = λ k l. absurd (omega arith);
       }
     where
-      last : (k : ℕ) → k ≡ p → getD (set list p v) k 0 ≡ classOf same k
-      last k f = ap (λ i. getD (set list p v) i 0) f ∙ (getD-set-same list p v 0 (omega (arith, c .long)) ∙ (e ∙ ap (classOf same) (sym f)))
+      last : (k : ℕ) → k ≡ p → getD (set list p v) k 0 ≡ classOf n same k
+      last k f = ap (λ i. getD (set list p v) i 0) f ∙ (getD-set-same list p v 0 (omega (arith, c .long)) ∙ (e ∙ ap (classOf n same) (sym f)))
 
-  pub classed-out : p < 14 → same 14 p ≡ true → Classed same (set list p 14) (p + 1) 0
+  pub classed-out : p < n → same n p ≡ true → Classed n same (set list p n) (p + 1) 0
   unfolding classOf
-  classed-out h e = classed-found 14 h (ap (λ b. cond b 14 (firstFrom (λ k. same k p) 0 14)) (sym e))
+  classed-out h e = classed-found n h (ap (λ b. cond b n (firstFrom (λ k. same k p) 0 n)) (sym e))
 
-  pub classed-here : p < 14 → same 14 p ≡ false → same q p ≡ true → Classed same (set list p q) (p + 1) 0
+  pub classed-here : p < n → same n p ≡ false → same q p ≡ true → Classed n same (set list p q) (p + 1) 0
   unfolding classOf
-  classed-here h e f = classed-found q h (found ∙ ap (λ b. cond b 14 (firstFrom (λ k. same k p) 0 14)) (sym e))
+  classed-here h e f = classed-found q h (found ∙ ap (λ b. cond b n (firstFrom (λ k. same k p) 0 n)) (sym e))
     where
-      found : q ≡ firstFrom (λ k. same k p) 0 14
-      found = let z : 0 + q ≡ q = omega arith in sym z ∙ first-at (λ k. same k p) 0 14 q (omega (arith, c .behind)) before (ap (λ k. same k p) z ∙ f)
+      found : q ≡ firstFrom (λ k. same k p) 0 n
+      found = let z : 0 + q ≡ q = omega arith in sym z ∙ first-at (λ k. same k p) 0 n q (omega (arith, c .behind)) before (ap (λ k. same k p) z ∙ f)
         where
           before : (k : ℕ) → k < q → same (0 + k) p ≡ false
           before k l = let z : 0 + k ≡ k = omega arith in ap (λ j. same j p) z ∙ c .none k l
 
   -- a place that is like none before it is its own class
-  pub classed-own : Equivalence same → p < 14 → same 14 p ≡ false → q ≡ p → Classed same (set list p p) (p + 1) 0
+  pub classed-own : Equivalence same → p < n → same n p ≡ false → q ≡ p → Classed n same (set list p p) (p + 1) 0
   classed-own a h e f = rw (f) at (classed-here h e (ap (λ k. same k p) f ∙ a .itself p))
 
-  pub classed-next : q < p → same q p ≡ false → Classed same list p (q + 1)
+  pub classed-next : q < p → same q p ≡ false → Classed n same list p (q + 1)
   classed-next h e =
       record {
         within = c .within;
@@ -162,10 +162,10 @@ module _ (same : ℕ → ℕ → Bool) (list : List ℕ) (p q : ℕ) (c : Classe
         none = λ k l. elim (decLt k q) [ yes m ↦ c .none k m | no m ↦ let f : k ≡ q = omega arith in ap (λ j. same j p) f ∙ e ];
       }
 
-  pub classed-end : 14 ≤ p → list ≡ classesFrom same 0 14
+  pub classed-end : n ≤ p → list ≡ classesFrom n same 0 n
   classed-end h =
-      ext-getD 0 list (classesFrom same 0 14) (c .long ∙ sym (classes-length same 0 14))
-      (λ k l. let z : 0 + k ≡ k = omega arith in c .done k (omega (arith, c .long)) ∙ (ap (classOf same) (sym z) ∙ sym (classes-at same 0 14 k (omega (arith, c .long)))))
+      ext-getD 0 list (classesFrom n same 0 n) (c .long ∙ sym (classes-length n same 0 n))
+      (λ k l. let z : 0 + k ≡ k = omega arith in c .done k (omega (arith, c .long)) ∙ (ap (classOf n same) (sym z) ∙ sym (classes-at n same 0 n k (omega (arith, c .long)))))
 
 empty-of : (x : List ℕ) → length x ≡ 0 → x ≡ []
 empty-of [] e = refl
@@ -176,24 +176,24 @@ names-outside : (names : Names) (p : ℕ) → 14 ≤ p → nameAt names p ≡ no
 unfolding nameAt
 names-outside names p h = rw (le-ltb _ _ h)
 
-named-table : (names : Names) → Table (sameAt names)
+named-table : (names : Names) → Table 14 (sameAt names)
 unfolding sameAt
 named-table names = record { alike = same-places names; outside = outside }
   where
     outside : (p : ℕ) → 14 ≤ p → sameAt names 14 p ≡ true
     outside p h = rw (names-outside names p h, names-outside names 14 (omega arith)) (same-name .itself (nameBytes noName))
 
-class-is : (names : Names) (p : ℕ) → classAt (sameNames names) p ≡ classOf (sameAt names) p
+class-is : (names : Names) (p : ℕ) → classAt (sameNames names) p ≡ classOf 14 (sameAt names) p
 unfolding classAt sameNames classOf
-class-is names p = elim (decLt p 14) [ yes h ↦ rw (lt-ltb _ _ h) (let z : 0 + p ≡ p = omega arith in classes-at (sameAt names) 0 14 p h ∙ ap (classOf (sameAt names)) z) | no h ↦ rw (le-ltb p 14 (omega arith)) (out (omega arith)) ]
+class-is names p = elim (decLt p 14) [ yes h ↦ rw (lt-ltb _ _ h) (let z : 0 + p ≡ p = omega arith in classes-at 14 (sameAt names) 0 14 p h ∙ ap (classOf 14 (sameAt names)) z) | no h ↦ rw (le-ltb p 14 (omega arith)) (out (omega arith)) ]
   where
-    out : 14 ≤ p → 14 ≡ classOf (sameAt names) p
+    out : 14 ≤ p → 14 ≡ classOf 14 (sameAt names) p
     out h = ap (λ b. cond b 14 (firstFrom (λ k. sameAt names k p) 0 14)) (sym (named-table names .outside p h))
 
 -- the classes of a table of names say what its bytes say
 pub classes-same : (names : Names) → sameClass (sameNames names) ≡ sameAt names
 unfolding sameClass
-classes-same names = λ j p q. ((ap (λ k. eqb k (classAt (sameNames names) q)) (class-is names p) ∙ ap (λ k. eqb (classOf (sameAt names) p) k) (class-is names q)) ∙ by-class (sameAt names) (named-table names) p q) j
+classes-same names = λ j p q. ((ap (λ k. eqb k (classAt (sameNames names) q)) (class-is names p) ∙ ap (λ k. eqb (classOf 14 (sameAt names) p) k) (class-is names q)) ∙ by-class 14 (sameAt names) (named-table names) p q) j
 
 -- what the code compares: names in the table, an empty one against one outside, and lengths that differ
 module _ (names : Names) (p : ℕ) (h : p < 14) where

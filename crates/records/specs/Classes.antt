@@ -13,17 +13,17 @@ unfoldable pub firstFrom : (ℕ → Bool) → ℕ → ℕ → ℕ
 firstFrom test i zero = i
 firstFrom test i (suc n) = cond (test i) i (firstFrom test (i + 1) n)
 
--- the class of a place of a table of 14: the first place that is the same, and 14 for what is the same as a place outside
-unfoldable pub classOf : (ℕ → ℕ → Bool) → ℕ → ℕ
-classOf same p = cond (same 14 p) 14 (firstFrom (λ k. same k p) 0 14)
+-- the class of a place of a table of n: the first place that is the same, and n for what is the same as a place outside
+unfoldable pub classOf : ℕ → (ℕ → ℕ → Bool) → ℕ → ℕ
+classOf n same p = cond (same n p) n (firstFrom (λ k. same k p) 0 n)
 
--- the classes of i, i + 1, .. i + n - 1
-unfoldable pub classesFrom : (ℕ → ℕ → Bool) → ℕ → ℕ → List ℕ
-classesFrom same i zero = []
-classesFrom same i (suc n) = classOf same i ∷ classesFrom same (i + 1) n
+-- the classes of i, i + 1, .. i + k - 1
+unfoldable pub classesFrom : ℕ → (ℕ → ℕ → Bool) → ℕ → ℕ → List ℕ
+classesFrom n same i zero = []
+classesFrom n same i (suc k) = classOf n same i ∷ classesFrom n same (i + 1) k
 
 unfoldable pub sameNames : Names → SameNames
-sameNames names = record { list = classesFrom (sameAt names) 0 14 }
+sameNames names = record { list = classesFrom 14 (sameAt names) 0 14 }
 
 -- two places are the same exactly if their classes are equal; `sameClass (sameNames names)` is `sameAt names`
 unfoldable pub classAt : SameNames → ℕ → ℕ

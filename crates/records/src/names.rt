@@ -169,7 +169,7 @@ fn same_connect<'a>(origin: &'a [u8], a: &'a [u8], b: &'a [u8]) -> bool
 }
 
 // The same of three names in their rooms.
-fn same_connected(origin: Name, a: Name, b: Name) -> bool
+pub fn same_connected(origin: Name, a: Name, b: Name) -> bool
     ensures { λ r. ⌜ r ≡ sameBytes (connectName (nameBytes origin) (nameBytes a)) (connectName (nameBytes origin) (nameBytes b)) ⌝ }
 {
     let o = origin.bytes;

@@ -12,13 +12,13 @@ use Rattle.records.proofs.names.same_names.Statement.{statement}
 use Rattle.records.proofs.names.same_names.Tie as tie
 
 abbrev Inv-loop : tie.InvT-loop
-Inv-loop names list₀ p₀ q₀ list p q = Classed (sameAt names) list p q
+Inv-loop names list₀ p₀ q₀ list p q = Classed 14 (sameAt names) list p q
 
 abbrev μ-loop : tie.MeasureT-loop
 μ-loop names list₀ p₀ q₀ list p q = (14 - p) * 15 + (14 - q)
 
 loop-holds : tie.Need-loop-holds Inv-loop μ-loop
-loop-holds c = classed-none _ _ refl
+loop-holds c = classed-none 14 _ _ refl
 
 mul-name-len : tie.Need-mul-name-len Inv-loop μ-loop
 mul-name-len c = search needs
@@ -51,7 +51,7 @@ loop-again : tie.Need-loop-again Inv-loop μ-loop
 loop-again c =
     let n = c .before .before .before in
     let h = n .before .before .before in
-    classed-out _ _ _ _ (h .loop .inv) (omega arith) (empty-out _ _ (omega arith) (sym (n .name-len .ensures) ∙ c .if1 .taken))
+    classed-out 14 _ _ _ _ (h .loop .inv) (omega arith) (empty-out _ _ (omega arith) (sym (n .name-len .ensures) ∙ c .if1 .taken))
 
 cast-list : tie.Need-cast-list Inv-loop μ-loop
 cast-list c = search needs
@@ -69,7 +69,7 @@ loop-again-2 : tie.Need-loop-again-2 Inv-loop μ-loop
 loop-again-2 c =
     let n = c .before .before .before .before in
     let h = n .before .before .before in
-    classed-own _ _ _ _ (h .loop .inv) (same-places _) (omega arith) (full-out _ _ (omega arith) (λ e. c .before .if1 .left (n .name-len .ensures ∙ e))) (c .if2 .taken)
+    classed-own 14 _ _ _ _ (h .loop .inv) (same-places _) (omega arith) (full-out _ _ (omega arith) (λ e. c .before .if1 .left (n .name-len .ensures ∙ e))) (c .if2 .taken)
 
 mul-a : tie.Need-mul-a Inv-loop μ-loop
 mul-a c = search needs
@@ -103,7 +103,7 @@ loop-again-3 c =
     let f = c .before .before .before .before .before in
     let n = f .before .before .before .before in
     let h = n .before .before .before in
-    classed-here _ _ _ _ (h .loop .inv) (omega arith) (full-out _ _ (omega arith) (λ e. f .before .if1 .left (n .name-len .ensures ∙ e)))
+    classed-here 14 _ _ _ _ (h .loop .inv) (omega arith) (full-out _ _ (omega arith) (λ e. f .before .if1 .left (n .name-len .ensures ∙ e)))
     (sym (same-in _ _ (omega arith) _ (omega (arith, h .loop .inv .behind))) ∙ (sym (c .before .same-name .ensures) ∙ c .if4 .taken))
 
 add-q : tie.Need-add-q Inv-loop μ-loop
@@ -116,11 +116,11 @@ loop-again-4 : tie.Need-loop-again-4 Inv-loop μ-loop
 loop-again-4 c =
     let n = c .before .before .before .before .before in
     let h = n .before .before .before in
-    classed-next _ _ _ _ (h .loop .inv) (omega (arith, h .loop .inv .behind)) (⊎-elim (λ w. sym (same-in _ _ (omega arith) _ (omega (arith, h .loop .inv .behind))) ∙ (sym (w .3 .ensures) ∙ w .4 .left)) (λ w. lengths-apart _ _ (omega arith) _ (omega (arith, h .loop .inv .behind)) (λ e. w .left (n .name-len .ensures ∙ (e ∙ sym (c .before .before .before .name-len2 .ensures))))) (c .if3 .came))
+    classed-next 14 _ _ _ _ (h .loop .inv) (omega (arith, h .loop .inv .behind)) (⊎-elim (λ w. sym (same-in _ _ (omega arith) _ (omega (arith, h .loop .inv .behind))) ∙ (sym (w .3 .ensures) ∙ w .4 .left)) (λ w. lengths-apart _ _ (omega arith) _ (omega (arith, h .loop .inv .behind)) (λ e. w .left (n .name-len .ensures ∙ (e ∙ sym (c .before .before .before .name-len2 .ensures))))) (c .if3 .came))
 
 returns : tie.Need-returns Inv-loop μ-loop
 unfolding sameNames
-returns c = ap (λ l. record { list = l }) (classed-end _ _ _ _ (c .before .loop .inv) (omega arith))
+returns c = ap (λ l. record { list = l }) (classed-end 14 _ _ _ _ (c .before .loop .inv) (omega arith))
 
 pub same-names-spec : {M : Type 1} → statement M
 same-names-spec =

@@ -1,0 +1,5 @@
+pub mod Https
+pub mod State
+pub mod Changes
+pub mod Lists
+pub mod Standing
