@@ -67,8 +67,9 @@ returns : tie.Need-returns Inv-loop μ-loop
 unfolding putNames
 returns c =
     let s = c .before .before .before in
-    let e = sets-end (s .args .t3 .list) (c .before .loop .out .list) (c .before .before .first-name .result) (c .before .loop .i) _ (c .before .loop .inv .1) (omega (arith, long s)) ∙ ap (λ k. sets (s .args .names .list) k (s .args .t3 .list)) (c .before .before .first-name .ensures) in
-    λ j. record { list = e j }
+    let e = sets-end (s .args .t3 .list) (c .before .loop .out .list) (c .before .before .first-name .result) (c .before .loop .i) _ (c .before .loop .inv .1) (omega (arith, long s)) in
+    let f = ap (λ k. sets (s .args .names .list) k (s .args .t3 .list)) (c .before .before .first-name .ensures) in
+    λ j. record { list = (e ∙ f) j }
 
 pub put-names-spec : {M : Type 1} → statement M
 put-names-spec =
