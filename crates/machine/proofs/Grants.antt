@@ -1,36 +1,20 @@
 -- Full stands exactly where there is no room, and changes nothing; no timer of 0 is given.
 use Prim.Native.Nat.{ℕ}
-use mathlib.Core.Path.{_≡_, refl, _∙_}
-use mathlib.Core.Bool.{Bool, true, false, not, cond, _&&_, _||_}
-use native.Mathlib.Decide.{decLt}
-use native.Mathlib.Omega.{arith}
-use lib.Dec.{ltb, leb}
-use borrow.Author.Tests.{lt-ltb, le-ltb}
+use mathlib.Core.Path.{_≡_, refl, sym, _∙_}
+use mathlib.Core.Bool.{Bool, true, false, false≢true, cond, _&&_, _||_}
+use lib.Dec.{leb}
 use Rattle.pacing.specs.Ids.{nextId}
 use Rattle.pacing.specs.declared.id.IdGenerator.{IdGenerator}
-use Rattle.records.specs.declared.rules.Rules.{Rules}
-use Rattle.records.specs.declared.rules.Timing.{Timing}
-use Rattle.records.specs.declared.queries.Kind.{Kind}
 use Rattle.records.specs.declared.queries.Query.{Query}
-use Rattle.records.specs.declared.endpoints.Endpoint.{Endpoint}
 use Rattle.state.specs.declared.attempts.Attempt.{Attempt}
 use Rattle.state.specs.declared.changes.CallChange.the-variants as change
-use Rattle.starting.specs.Starting.{attemptLeft, resolutionLeft}
-use Rattle.starting.specs.declared.surveys.Tries.{Tries}
-use Rattle.starting.specs.declared.surveys.Asks.{Asks}
-use Rattle.starting.specs.declared.surveys.Place.{Place}
-use Rattle.starting.specs.declared.surveys.Place.the-variants as place
-use Rattle.starting.specs.declared.wanted.Wanted.{Wanted}
-use Rattle.starting.specs.declared.wanted.Wanted.the-variants as wanted
-use Rattle.machine.specs.declared.wish.Found.{Found}
-use Rattle.machine.specs.declared.wish.Found.the-variants as found
 use Rattle.machine.specs.declared.wish.Wish.{Wish}
 use Rattle.machine.specs.declared.wish.Wish.the-variants as wish
 use Rattle.machine.specs.declared.grant.Table.the-variants as table
 use Rattle.machine.specs.declared.grant.Output.{Output}
 use Rattle.machine.specs.declared.grant.Output.the-variants as output
 use Rattle.machine.specs.declared.grant.Turn.{Turn}
-use Rattle.machine.specs.Output.{only, endWish, reasonOf, lastWish, timerWish, refreshWish, queryWish, restWish, wishFound, nextOrigin, wishFrom, queryGrant, attemptGrant, grantBy, grantOf}
+use Rattle.machine.specs.Output.{queryGrant, attemptGrant, grantBy, grantOf}
 
 abbrev pub fullQueries : Output → Bool
 fullQueries output.Waiting = false
@@ -53,6 +37,9 @@ fullAttempts output.Succeeded = false
 fullAttempts (output.Failed r) = false
 fullAttempts (output.Full table.Queries) = false
 fullAttempts (output.Full table.Attempts) = true
+
+abbrev pub isFull : Output → Bool
+isFull o = fullQueries o || fullAttempts o
 
 abbrev pub wishesQuery : Wish → Bool
 wishesQuery (wish.Cancel p) = false
@@ -127,16 +114,29 @@ pub full-attempts : (asked tried : ℕ) (q : Query) (a : Attempt) (ids : IdGener
 unfolding grantOf
 full-attempts asked tried q a ids w now = attempts-by asked tried q a (nextId ids .id) now w
 
--- where there is no room, Full changes nothing
-pub full-query-changes-nothing : (count id : ℕ) (k : Kind) (p : ℕ) → leb 16 count ≡ true → queryGrant count id k p ≡ only (output.Full table.Queries)
-unfolding queryGrant
-full-query-changes-nothing count id k p h = rw h
+if-nothing : (test : Output → Bool) (b : Bool) (t u : Turn) → t .change ≡ change.Nothing → test (u .output) ≡ false → test (cond b t u .output) ≡ true → cond b t u .change ≡ change.Nothing
+if-nothing test true t u h k e = h
+if-nothing test false t u h k e = absurd (false≢true (sym k ∙ e))
 
-pub full-attempt-changes-nothing : (count id : ℕ) (retry : Bool) (e : Endpoint) (now : ℕ) → leb 32 count ≡ true → attemptGrant count id retry e now ≡ only (output.Full table.Attempts)
-unfolding attemptGrant
-full-attempt-changes-nothing count id retry e now h = rw h
+nothing-by : (asked tried : ℕ) (q : Query) (a : Attempt) (id now : ℕ) (w : Wish) → isFull (grantBy asked tried q a id now w .output) ≡ true → grantBy asked tried q a id now w .change ≡ change.Nothing
+unfolding queryGrant attemptGrant
+nothing-by asked tried q a id now (wish.Cancel p) e = absurd (false≢true e)
+nothing-by asked tried q a id now wish.Succeeded e = refl
+nothing-by asked tried q a id now (wish.Retry x) e = if-nothing isFull (leb 32 tried) _ _ refl refl e
+nothing-by asked tried q a id now (wish.Attempt x) e = if-nothing isFull (leb 32 tried) _ _ refl refl e
+nothing-by asked tried q a id now (wish.Query k p) e = if-nothing isFull (leb 16 asked) _ _ refl refl e
+nothing-by asked tried q a id now (wish.Refresh p) e = absurd (false≢true e)
+nothing-by asked tried q a id now (wish.AttemptTimer n) e = refl
+nothing-by asked tried q a id now (wish.ResolutionTimer n) e = refl
+nothing-by asked tried q a id now (wish.Failed r) e = refl
+nothing-by asked tried q a id now wish.Waiting e = refl
+
+-- Full changes nothing
+pub full-changes-nothing : (asked tried : ℕ) (q : Query) (a : Attempt) (ids : IdGenerator) (w : Wish) (now : ℕ) → isFull (grantOf asked tried q a ids w now .output) ≡ true → grantOf asked tried q a ids w now .change ≡ change.Nothing
+unfolding grantOf
+full-changes-nothing asked tried q a ids w now e = nothing-by asked tried q a (nextId ids .id) now w e
 
 -- a refresh is never Full
-pub refresh-never-full : (asked tried : ℕ) (q : Query) (a : Attempt) (ids : IdGenerator) (p now : ℕ) → fullQueries (grantOf asked tried q a ids (wish.Refresh p) now .output) || fullAttempts (grantOf asked tried q a ids (wish.Refresh p) now .output) ≡ false
+pub refresh-never-full : (asked tried : ℕ) (q : Query) (a : Attempt) (ids : IdGenerator) (p now : ℕ) → isFull (grantOf asked tried q a ids (wish.Refresh p) now .output) ≡ false
 unfolding grantOf
 refresh-never-full asked tried q a ids p now = refl
