@@ -1,9 +1,8 @@
 -- Output (document 01, part 6): what the rules call for, and what is given. "Order as `process_output_inner`: cancel in list order, then
 -- Succeeded on every call; ECH retry; attempt; queries; timer; Failed."
-use Prim.Native.Nat.{ℕ, _+_}
-use mathlib.Core.Bool.{Bool, true, false, not, cond, _&&_, _||_}
-use mathlib.Core.List.{List, [], _∷_}
-use lib.Dec.{eqb, ltb, leb}
+use Prim.Native.Nat.{ℕ}
+use mathlib.Core.Bool.{Bool, true, false, cond, _||_}
+use lib.Dec.{ltb, leb}
 use lib.ListN.{getD}
 use Rattle.pacing.specs.Ids.{nextId}
 use Rattle.pacing.specs.declared.id.IdGenerator.{IdGenerator}
@@ -13,8 +12,9 @@ use Rattle.records.specs.Endpoints.{sameEndpoint}
 use Rattle.records.specs.declared.rules.Rules.{Rules}
 use Rattle.records.specs.declared.rules.Timing.{Timing}
 use Rattle.records.specs.declared.rules.Alts.{Alts}
+use Rattle.records.specs.declared.rules.Mode.{Mode}
+use Rattle.records.specs.declared.rules.Mode.the-variants as mode
 use Rattle.records.specs.declared.queries.Kind.{Kind}
-use Rattle.records.specs.declared.queries.Kind.the-variants.{Https, Aaaa, A}
 use Rattle.records.specs.declared.queries.Answer.the-variants.{Pending}
 use Rattle.records.specs.declared.queries.Refresh.the-variants.{Idle, InFlight}
 use Rattle.records.specs.declared.queries.Query.{Query}
@@ -22,6 +22,7 @@ use Rattle.records.specs.declared.queries.Queries.{Queries}
 use Rattle.records.specs.declared.queries.Answers.{Answers}
 use Rattle.records.specs.declared.services.Services.{Services}
 use Rattle.records.specs.declared.endpoints.Endpoint.{Endpoint}
+use Rattle.listing.specs.Held.{Same}
 use Rattle.state.specs.State.{noAttempt, newAttempt, withState}
 use Rattle.state.specs.declared.Machine.{Machine}
 use Rattle.state.specs.declared.attempts.State.the-variants.{Cancelled}
@@ -30,7 +31,9 @@ use Rattle.state.specs.declared.attempts.Attempts.{Attempts}
 use Rattle.state.specs.declared.attempts.Retries.{Retries}
 use Rattle.state.specs.declared.changes.CallChange.the-variants as change
 use Rattle.starting.specs.Surveys.{triesOf, asksOf, hintsOf}
-use Rattle.starting.specs.Starting.{Alike, attemptLeft, resolutionLeft, mayStart, originQuery, originTypes, missing, wantedIn, nextQuery, nextRetry, nextEndpoint}
+use Rattle.starting.specs.Starting.{attemptLeft, resolutionLeft, mayStart}
+use Rattle.starting.specs.Wanted.{originWanted, wantedBy, nextQuery}
+use Rattle.starting.specs.Next.{Alike, nextRetry, nextEndpoint}
 use Rattle.starting.specs.declared.surveys.Tries.{Tries}
 use Rattle.starting.specs.declared.surveys.Asks.{Asks}
 use Rattle.starting.specs.declared.surveys.Hinted.{Hinted}
@@ -73,8 +76,11 @@ endWish (place.At p) = wish.Cancel p
 endWish place.Nowhere = wish.Succeeded
 
 -- (H) "Failed exactly if no query, refresh or attempt is unanswered: connection if any attempt was made, else DNS." "Otherwise Waiting"
+unfoldable pub reasonOf : ℕ → Reason
+reasonOf count = cond (ltb 0 count) Connection Dns
+
 unfoldable pub lastWish : Tries → Asks → ℕ → Wish
-lastWish tries asks count = cond (asks .pending || (asks .flying || ltb 0 (tries .active))) wish.Waiting (wish.Failed (cond (ltb 0 count) Connection Dns))
+lastWish tries asks count = cond (asks .pending || (asks .flying || ltb 0 (tries .active))) wish.Waiting (wish.Failed (reasonOf count))
 
 -- "A timer of 0 isn't given."
 unfoldable pub timerWish : ℕ → ℕ → Wish → Wish
@@ -83,6 +89,10 @@ timerWish attempt resolution rest = cond (ltb 0 attempt) (wish.AttemptTimer atte
 abbrev pub refreshWish : Place → Wish → Wish
 refreshWish (place.At p) rest = wish.Refresh p
 refreshWish place.Nowhere rest = rest
+
+-- what comes after the queries
+abbrev pub restWish : Timing → Tries → Asks → ℕ → ℕ → Wish
+restWish t tries asks count now = refreshWish (asks .due) (timerWish (attemptLeft t tries now) (resolutionLeft t asks now) (lastWish tries asks count))
 
 abbrev pub queryWish : Wanted → Wish → Wish
 queryWish (wanted.Query k p) rest = wish.Query k p
@@ -97,19 +107,17 @@ retryWish (next.New e) rest = wish.Retry e
 retryWish next.Nothing rest = rest
 
 -- the gate: no attempt in progress is within the delay, and attempts may start
-unfoldable pub gate : Rules → Timing → Services → Tries → Asks → ℕ → Bool
-gate r t s tries asks now = not (ltb 0 (attemptLeft t tries now)) && mayStart r t asks (hintsOf s) now
+unfoldable pub gate : Rules → Timing → Tries → Asks → Hinted → ℕ → Bool
+gate r t tries asks hinted now = cond (ltb 0 (attemptLeft t tries now)) false (mayStart r t asks hinted now)
 
 -- what the rules call for, over any test of names and of endpoints
-unfoldable pub wishBy : (ℕ → ℕ → Bool) → Alike → Rules → Timing → Alts → Queries → Answers → Services → Attempts → Retries → ℕ → Wish
+unfoldable pub wishBy : Same → Alike → Rules → Timing → Alts → Queries → Answers → Services → Attempts → Retries → ℕ → Wish
 wishBy same alike r t l q d s a retries now =
     cond (triesOf a .won) (endWish (triesOf a .first))
     (retryWish (nextRetry alike a retries)
-    (attemptWish (cond (gate r t s (triesOf a) (asksOf q) now) (nextEndpoint alike r l q d s a same) next.Nothing)
+    (attemptWish (cond (gate r t (triesOf a) (asksOf q) (hintsOf s) now) (nextEndpoint alike r l q d s a same) next.Nothing)
     (queryWish (nextQuery r l q s same)
-    (refreshWish (asksOf q .due)
-    (timerWish (attemptLeft t (triesOf a) now) (resolutionLeft t (asksOf q) now)
-    (lastWish (triesOf a) (asksOf q) (a .count)))))))
+    (restWish t (triesOf a) (asksOf q) (a .count) now))))
 
 -- what the rules call for
 unfoldable pub wishOf : Machine → ℕ → Wish
@@ -122,13 +130,16 @@ wishOf m now =
 abbrev pub noLook : Look
 noLook = record { retry = false; next = false; query = false }
 
+abbrev pub hasOthers : (services alts : ℕ) → Bool
+hasOthers services alts = ltb 0 services || ltb 0 alts
+
 unfoldable pub lookOf : Rules → Timing → Tries → Asks → Hinted → (retries services alts : ℕ) → ℕ → Look
 lookOf r t tries asks hinted retries services alts now =
     cond (tries .won) noLook
     (record {
       retry = ltb 0 retries;
-      next = not (ltb 0 (attemptLeft t tries now)) && mayStart r t asks hinted now;
-      query = ltb 0 services || ltb 0 alts;
+      next = gate r t tries asks hinted now;
+      query = hasOthers services alts;
     })
 
 abbrev pub looks : Look → Bool
@@ -146,20 +157,29 @@ abbrev pub queryFound : Wanted → Found
 queryFound (wanted.Query k p) = found.Query k p
 queryFound wanted.Nothing = found.Nothing
 
-unfoldable pub foundBy : (ℕ → ℕ → Bool) → Alike → Look → Rules → Alts → Queries → Answers → Services → Attempts → Retries → Found
-foundBy same alike look r l q d s a retries =
-    retryFound (cond (look .retry) (nextRetry alike a retries) next.Nothing)
-    (attemptFound (cond (look .next) (nextEndpoint alike r l q d s a same) next.Nothing)
-    (cond (look .query) (queryFound (nextQuery r l q s same)) found.Nothing))
+abbrev pub otherFound : Bool → Wanted → Found
+otherFound on w = cond on (queryFound w) found.Nothing
 
--- the origin's query, as the survey tells which types were asked for
-abbrev pub hasKind : Kinds → Kind → Bool
-hasKind k Https = k .https
-hasKind k Aaaa = k .aaaa
-hasKind k A = k .a
+abbrev pub ifLooked : Bool → Next → Next
+ifLooked on n = cond on n next.Nothing
+
+-- where records of those types were asked for
+unfoldable pub laterFound : Same → Alike → Look → Kinds → Rules → Alts → Queries → Answers → Services → Attempts → Found
+laterFound same alike look k r l q d s a =
+    attemptFound (ifLooked (look .next) (nextEndpoint alike r l q d s a same)) (otherFound (look .query) (wantedBy k r l q s same))
+
+unfoldable pub foundBy : Same → Alike → Look → Kinds → Rules → Alts → Queries → Answers → Services → Attempts → Retries → Found
+foundBy same alike look k r l q d s a retries =
+    retryFound (ifLooked (look .retry) (nextRetry alike a retries)) (laterFound same alike look k r l q d s a)
+
+-- the origin's query; mode `Name` wants none
+abbrev pub originIn : Mode → Wanted → Wanted
+originIn mode.Ip w = w
+originIn mode.Name w = wanted.Nothing
+originIn mode.NameWithHttpsRr w = w
 
 unfoldable pub nextOrigin : Rules → Asks → Wanted
-nextOrigin r asks = wantedIn (r .mode) (missing (hasKind (asks .asked)) (originQuery r) (originTypes r)) wanted.Nothing
+nextOrigin r asks = originIn (r .mode) (originWanted r (asks .asked))
 
 abbrev pub wishFound : Found → Wish → Wish
 wishFound (found.Retry e) rest = wish.Retry e
@@ -172,9 +192,7 @@ wishFrom r t tries asks f count now =
     cond (tries .won) (endWish (tries .first))
     (wishFound f
     (queryWish (nextOrigin r asks)
-    (refreshWish (asks .due)
-    (timerWish (attemptLeft t tries now) (resolutionLeft t asks now)
-    (lastWish tries asks count)))))
+    (restWish t tries asks count now)))
 
 -- The grant
 

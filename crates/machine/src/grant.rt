@@ -1,4 +1,6 @@
 // What is given for a wish: "Full stands where a query or attempt would have been, and changes nothing."
+ghost use mathlib.Core.Path.{_≡_};
+ghost use Rattle.machine.specs.Output.{only, newQuery, refreshed, queryGrant, refreshGrant, attemptGrant, cancelGrant, wishQuery, wishAttempt, grantOf};
 use super::wish::Reason;
 use super::wish::Wish;
 use pacing::id::IdGenerator;
@@ -39,7 +41,9 @@ pub struct Turn {
     pub change: CallChange,
 }
 
-fn only(output: Output) -> Turn {
+fn only(output: Output) -> Turn
+    ensures { λ r. ⌜ r ≡ only output ⌝ }
+{
     Turn {
         output,
         change: CallChange::Nothing,
@@ -47,7 +51,9 @@ fn only(output: Output) -> Turn {
 }
 
 // A record before its answer; its first query allows a stale one.
-fn new_query(id: u64, kind: Kind, name: u8) -> Query {
+fn new_query(id: u64, kind: Kind, name: u8) -> Query
+    ensures { λ r. ⌜ r ≡ newQuery id kind name ⌝ }
+{
     Query {
         id,
         kind,
@@ -59,7 +65,9 @@ fn new_query(id: u64, kind: Kind, name: u8) -> Query {
 }
 
 // The record with its refresh in flight.
-fn refreshed(q: Query, id: u64) -> Query {
+fn refreshed(q: Query, id: u64) -> Query
+    ensures { λ r. ⌜ r ≡ refreshed q id ⌝ }
+{
     let k = q.kind;
     let a = q.answer;
     Query {
@@ -72,7 +80,9 @@ fn refreshed(q: Query, id: u64) -> Query {
     }
 }
 
-fn query_grant(count: usize, id: u64, kind: Kind, name: u8) -> Turn {
+fn query_grant(count: usize, id: u64, kind: Kind, name: u8) -> Turn
+    ensures { λ r. ⌜ r ≡ queryGrant count id kind name ⌝ }
+{
     if 16 <= count {
         return only(Output::Full(Table::Queries));
     }
@@ -83,7 +93,9 @@ fn query_grant(count: usize, id: u64, kind: Kind, name: u8) -> Turn {
 }
 
 // A refresh of the record q at p. It forbids a stale answer, and needs no record.
-fn refresh_grant(q: Query, id: u64, p: usize) -> Turn {
+fn refresh_grant(q: Query, id: u64, p: usize) -> Turn
+    ensures { λ r. ⌜ r ≡ refreshGrant q id p ⌝ }
+{
     let k = q.kind;
     Turn {
         output: Output::Query(id, k, false, q.name),
@@ -91,7 +103,9 @@ fn refresh_grant(q: Query, id: u64, p: usize) -> Turn {
     }
 }
 
-fn attempt_grant(count: usize, id: u64, retry: bool, e: Endpoint, now: u64) -> Turn {
+fn attempt_grant(count: usize, id: u64, retry: bool, e: Endpoint, now: u64) -> Turn
+    ensures { λ r. ⌜ r ≡ attemptGrant count id retry e now ⌝ }
+{
     if 32 <= count {
         return only(Output::Full(Table::Attempts));
     }
@@ -101,7 +115,9 @@ fn attempt_grant(count: usize, id: u64, retry: bool, e: Endpoint, now: u64) -> T
     }
 }
 
-fn cancel_grant(a: Attempt, p: usize) -> Turn {
+fn cancel_grant(a: Attempt, p: usize) -> Turn
+    ensures { λ r. ⌜ r ≡ cancelGrant a p ⌝ }
+{
     Turn {
         output: Output::Cancel(a.id),
         change: CallChange::Cancels(p, with_state(a, State::Cancelled)),
@@ -109,7 +125,9 @@ fn cancel_grant(a: Attempt, p: usize) -> Turn {
 }
 
 // The place of the record, and of the attempt, that a wish is about; 0 where it is about none.
-pub fn wish_query(w: Wish) -> usize {
+pub fn wish_query(w: Wish) -> usize
+    ensures { λ r. ⌜ r ≡ wishQuery w ⌝ }
+{
     match w {
         Wish::Cancel(_) => 0,
         Wish::Succeeded => 0,
@@ -124,7 +142,9 @@ pub fn wish_query(w: Wish) -> usize {
     }
 }
 
-pub fn wish_attempt(w: Wish) -> usize {
+pub fn wish_attempt(w: Wish) -> usize
+    ensures { λ r. ⌜ r ≡ wishAttempt w ⌝ }
+{
     match w {
         Wish::Cancel(p) => p,
         Wish::Succeeded => 0,
@@ -149,7 +169,9 @@ pub fn grant_of(
     ids: IdGenerator,
     w: Wish,
     now: u64,
-) -> Turn {
+) -> Turn
+    ensures { λ r. ⌜ r ≡ grantOf asked tried q a ids w now ⌝ }
+{
     let issued = ids.next_id();
     let id = issued.id;
     match w {
