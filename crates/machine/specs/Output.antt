@@ -1,5 +1,4 @@
--- Output (document 01, part 6): what the rules call for, and what is given. "Order as `process_output_inner`: cancel in list order, then
--- Succeeded on every call; ECH retry; attempt; queries; timer; Failed."
+-- Output (document 01, part 6): what the rules call for, in the order of `process_output_inner`, and what is given.
 use Prim.Native.Nat.{ℕ}
 use mathlib.Core.Bool.{Bool, true, false, cond, _||_}
 use lib.Dec.{ltb, leb}
@@ -51,22 +50,10 @@ use Rattle.machine.specs.declared.wish.Found.{Found}
 use Rattle.machine.specs.declared.wish.Found.the-variants as found
 use Rattle.machine.specs.declared.wish.Wish.{Wish}
 use Rattle.machine.specs.declared.wish.Wish.the-variants as wish
-use Rattle.machine.specs.declared.grant.Table.{Table}
 use Rattle.machine.specs.declared.grant.Table.the-variants as table
 use Rattle.machine.specs.declared.grant.Output.{Output}
 use Rattle.machine.specs.declared.grant.Output.the-variants as output
 use Rattle.machine.specs.declared.grant.Turn.{Turn}
-
--- Numbers of an answer's cases
-
--- "6 Failed (0 DNS, 1 connection)", "7 Full (0 queries, 1 attempts)"
-abbrev pub reasonNumber : Reason → ℕ
-reasonNumber Dns = 0
-reasonNumber Connection = 1
-
-abbrev pub tableNumber : Table → ℕ
-tableNumber table.Queries = 0
-tableNumber table.Attempts = 1
 
 -- The wish
 
@@ -75,10 +62,11 @@ abbrev pub endWish : Place → Wish
 endWish (place.At p) = wish.Cancel p
 endWish place.Nowhere = wish.Succeeded
 
--- (H) "Failed exactly if no query, refresh or attempt is unanswered: connection if any attempt was made, else DNS." "Otherwise Waiting"
+-- "connection if any attempt was made, else DNS"
 unfoldable pub reasonOf : ℕ → Reason
 reasonOf count = cond (ltb 0 count) Connection Dns
 
+-- (H) "Failed exactly if no query, refresh or attempt is unanswered"
 unfoldable pub lastWish : Tries → Asks → ℕ → Wish
 lastWish tries asks count = cond (asks .pending || (asks .flying || ltb 0 (tries .active))) wish.Waiting (wish.Failed (reasonOf count))
 
@@ -125,7 +113,7 @@ wishOf m now =
     wishBy (sameAt (m .names)) (sameEndpoint (m .names) (m .echs)) (m .rules) (m .timing) (m .alts) (m .queries) (m .answers) (m .services) (m .attempts) (m .retries) now
 
 -- How the code finds it: what is looked for among the records, what is found, and the rest from the surveys. `wishFrom` of what is found is
--- `wishBy`.
+-- `wishBy` (law `found-way`).
 
 abbrev pub noLook : Look
 noLook = record { retry = false; next = false; query = false }
@@ -206,7 +194,7 @@ newQuery id k p = record { id = id; kind = k; name = p; stale = false; answer = 
 abbrev pub refreshed : Query → ℕ → Query
 refreshed q id = record { id = q .id; kind = q .kind; name = q .name; stale = q .stale; answer = q .answer; refresh = InFlight id }
 
--- "Full stands where a query or attempt would have been, and changes nothing."
+-- "Full stands where a query or attempt would have been"; it changes nothing
 unfoldable pub queryGrant : ℕ → ℕ → Kind → ℕ → Turn
 queryGrant count id k p = cond (leb 16 count) (only (output.Full table.Queries)) (record { output = output.Query id k true p; change = change.Asks count (newQuery id k p) })
 

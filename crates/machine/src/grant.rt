@@ -1,4 +1,4 @@
-// What is given for a wish: "Full stands where a query or attempt would have been, and changes nothing."
+// What is given for a wish. Full stands where there is no room for a query or an attempt, and changes nothing.
 ghost use mathlib.Core.Path.{_≡_};
 ghost use Rattle.machine.specs.Output.{only, newQuery, refreshed, queryGrant, refreshGrant, attemptGrant, cancelGrant, wishQuery, wishAttempt, grantOf};
 use super::wish::Reason;
