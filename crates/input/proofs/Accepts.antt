@@ -16,7 +16,7 @@ use Rattle.state.specs.declared.attempts.State.{State}
 use Rattle.state.specs.declared.attempts.State.the-variants.{InProgress, Cancelled}
 use Rattle.state.specs.declared.attempts.Attempt.{Attempt}
 use Rattle.state.specs.declared.attempts.Attempts.{Attempts}
-use Rattle.state.specs.declared.changes.Change.the-variants as change
+use Rattle.state.specs.declared.changes.InputChange.the-variants as change
 use Rattle.state.specs.declared.changes.Round.the-variants.{First, Second}
 use Rattle.input.specs.declared.Verdict.the-variants.{Accepted, Refused}
 use Rattle.input.specs.declared.Asked.{Asked}

@@ -23,8 +23,8 @@ use Rattle.state.specs.declared.attempts.State.{State}
 use Rattle.state.specs.declared.attempts.State.the-variants as state
 use Rattle.state.specs.declared.attempts.Attempt.{Attempt}
 use Rattle.state.specs.declared.attempts.Attempts.{Attempts}
-use Rattle.state.specs.declared.changes.Change.{Change}
-use Rattle.state.specs.declared.changes.Change.the-variants as change
+use Rattle.state.specs.declared.changes.InputChange.{InputChange}
+use Rattle.state.specs.declared.changes.InputChange.the-variants as change
 use Rattle.state.specs.declared.changes.Round.{Round}
 use Rattle.state.specs.declared.changes.Round.the-variants.{First, Second}
 use Rattle.input.specs.declared.Input.{Input}
@@ -95,7 +95,7 @@ answer-says q k id stale a = by (askedOf q id) (asked-found q id)
 -- Results
 
 module _ (on : Bool) (a : Attempts) (n id p : ℕ) (inside : p < attemptsIn a) (own : Is id (attemptAt a p)) where
-  ended : (o : Outcome) (c : Change) → Ends on n p (attemptAt a p) o c (attemptAt a p .state) → Ended on a n id o c
+  ended : (o : Outcome) (c : InputChange) → Ends on n p (attemptAt a p) o c (attemptAt a p .state) → Ended on a n id o c
   ended o c h = record { place = p; within = inside; own = own; ends = h }
 
   retry-says : attemptAt a p .state ≡ state.InProgress → ResultSays on a n id outcome.EchRetry (retryVerdict on n p (attemptAt a p))
@@ -143,10 +143,10 @@ room x n outcome.EchRetry e = by (x .retry) e
 -- The whole: an accepted answer is the one held afterwards, with its moment; an accepted result ends its attempt, unless that was cancelled
 
 module _ (on : Bool) (q : Queries) (a : Attempts) (n : ℕ) (now : ℕ) where
-  pub held-after : (k : Kind) (id : ℕ) (stale : Bool) (m : ℕ) (c : Change) → verdictOf on q a n (input.Holds k id stale m) now ≡ Accepted c → Answered q k id stale (answer.Held now m) c
+  pub held-after : (k : Kind) (id : ℕ) (stale : Bool) (m : ℕ) (c : InputChange) → verdictOf on q a n (input.Holds k id stale m) now ≡ Accepted c → Answered q k id stale (answer.Held now m) c
   held-after k id stale m c e = rw e at (answer-says q k id stale (answer.Held now m))
 
-  pub failed-after : (k : Kind) (id : ℕ) (stale : Bool) (c : Change) → verdictOf on q a n (input.Fails k id stale) now ≡ Accepted c → Answered q k id stale (answer.Failed now) c
+  pub failed-after : (k : Kind) (id : ℕ) (stale : Bool) (c : InputChange) → verdictOf on q a n (input.Fails k id stale) now ≡ Accepted c → Answered q k id stale (answer.Failed now) c
   failed-after k id stale c e = rw e at (answer-says q k id stale (answer.Failed now))
 
   by-outcome : (o : Outcome) (id : ℕ) → verdictOf on q a n (resultOf o id) now ≡ resultVerdict on a n id o
@@ -154,7 +154,7 @@ module _ (on : Bool) (q : Queries) (a : Attempts) (n : ℕ) (now : ℕ) where
   by-outcome outcome.Failure id = refl
   by-outcome outcome.EchRetry id = refl
 
-  pub ended-after : (o : Outcome) (id : ℕ) (c : Change) → verdictOf on q a n (resultOf o id) now ≡ Accepted c → Ended on a n id o c
+  pub ended-after : (o : Outcome) (id : ℕ) (c : InputChange) → verdictOf on q a n (resultOf o id) now ≡ Accepted c → Ended on a n id o c
   ended-after o id c e = rw (sym (by-outcome o id) ∙ e) at (result-says on a n id o)
 
   -- an accepted result that changes nothing is that of a cancelled attempt
@@ -192,10 +192,10 @@ module _ (on : Bool) (q : Queries) (a : Attempts) (n : ℕ) (now : ℕ) where
   stored-inside p x failed r Aaaa h = h
   stored-inside p x failed r A h = h
 
-  answer-inside : (k : Kind) (id : ℕ) (stale : Bool) (t : Answer) (c : Change) → Answered q k id stale t c → Inside (recordsIn q) (attemptsIn a) n c
+  answer-inside : (k : Kind) (id : ℕ) (stale : Bool) (t : Answer) (c : InputChange) → Answered q k id stale t c → Inside (recordsIn q) (attemptsIn a) n c
   answer-inside k id stale t c h = rw (h .kept) (stored-inside (h .place) (withAnswer (recordAt q (h .place)) t stale (refreshAfter (h .round))) (isFailed t) (h .round) (recordAt q (h .place) .kind) (h .within))
 
-  result-inside : (o : Outcome) (id : ℕ) (c : Change) → Ended on a n id o c → Inside (recordsIn q) (attemptsIn a) n c
+  result-inside : (o : Outcome) (id : ℕ) (c : InputChange) → Ended on a n id o c → Inside (recordsIn q) (attemptsIn a) n c
   result-inside o id c h = by (attemptAt a (h .place) .state) (h .ends)
     where
       x : Attempt
@@ -212,12 +212,12 @@ module _ (on : Bool) (q : Queries) (a : Attempts) (n : ℕ) (now : ℕ) where
       by state.Cancelled e = rw e tt
 
   -- an accepted change lies inside its table
-  pub inside : (x : Input) (c : Change) → verdictOf on q a n x now ≡ Accepted c → Inside (recordsIn q) (attemptsIn a) n c
+  pub inside : (x : Input) (c : InputChange) → verdictOf on q a n x now ≡ Accepted c → Inside (recordsIn q) (attemptsIn a) n c
   inside (input.Fails k id stale) c e = answer-inside k id stale (answer.Failed now) c (failed-after k id stale c e)
   inside (input.Holds k id stale m) c e = answer-inside k id stale (answer.Held now m) c (held-after k id stale m c e)
   inside (input.Success id) c e = result-inside outcome.Success id c (ended-after outcome.Success id c e)
   inside (input.Failure id) c e = result-inside outcome.Failure id c (ended-after outcome.Failure id c e)
   inside (input.EchRetry id) c e = result-inside outcome.EchRetry id c (ended-after outcome.EchRetry id c e)
 
-  pub inside-rooms : length (q .list) ≡ 16 → length (a .list) ≡ 32 → (x : Input) (c : Change) → verdictOf on q a n x now ≡ Accepted c → Inside (min (q .count) 16) (min (a .count) 32) n c
+  pub inside-rooms : length (q .list) ≡ 16 → length (a .list) ≡ 32 → (x : Input) (c : InputChange) → verdictOf on q a n x now ≡ Accepted c → Inside (min (q .count) 16) (min (a .count) 32) n c
   inside-rooms h k x c e = rw (h, k) at (inside x c e)

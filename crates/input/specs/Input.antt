@@ -22,8 +22,8 @@ use Rattle.state.specs.declared.attempts.State.{State}
 use Rattle.state.specs.declared.attempts.State.the-variants as state
 use Rattle.state.specs.declared.attempts.Attempt.{Attempt}
 use Rattle.state.specs.declared.attempts.Attempts.{Attempts}
-use Rattle.state.specs.declared.changes.Change.{Change}
-use Rattle.state.specs.declared.changes.Change.the-variants as change
+use Rattle.state.specs.declared.changes.InputChange.{InputChange}
+use Rattle.state.specs.declared.changes.InputChange.the-variants as change
 use Rattle.state.specs.declared.changes.Round.{Round}
 use Rattle.state.specs.declared.changes.Round.the-variants.{First, Second}
 use Rattle.input.specs.declared.Input.{Input}
@@ -69,12 +69,12 @@ isFailed (answer.Failed t) = true
 isFailed (answer.Held t n) = false
 
 -- what is stored with the record: addresses, no service, or services
-abbrev pub storedAt : ℕ → Query → Bool → Round → Kind → Change
+abbrev pub storedAt : ℕ → Query → Bool → Round → Kind → InputChange
 storedAt p q failed round Https = cond failed (change.Empties p q) (change.Offers p q round)
 storedAt p q failed round Aaaa = change.Holds p q
 storedAt p q failed round A = change.Holds p q
 
-abbrev pub stored : ℕ → Query → Answer → Round → Change
+abbrev pub stored : ℕ → Query → Answer → Round → InputChange
 stored p q a round = storedAt p q (isFailed a) round (q .kind)
 
 abbrev pub isWrong : Kind → Query → Bool

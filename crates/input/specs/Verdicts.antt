@@ -20,8 +20,8 @@ use Rattle.state.specs.declared.attempts.State.{State}
 use Rattle.state.specs.declared.attempts.State.the-variants as state
 use Rattle.state.specs.declared.attempts.Attempt.{Attempt}
 use Rattle.state.specs.declared.attempts.Attempts.{Attempts}
-use Rattle.state.specs.declared.changes.Change.{Change}
-use Rattle.state.specs.declared.changes.Change.the-variants as change
+use Rattle.state.specs.declared.changes.InputChange.{InputChange}
+use Rattle.state.specs.declared.changes.InputChange.the-variants as change
 use Rattle.state.specs.declared.changes.Round.{Round}
 use Rattle.state.specs.declared.changes.Round.the-variants.{First, Second}
 use Rattle.input.specs.declared.Input.{Input}
@@ -66,7 +66,7 @@ MayBe First stale = Unit {0}
 MayBe Second stale = stale ≡ false
 
 -- an answer is accepted: the record that waits for it holds it then
-pub record Answered (q : Queries) (k : Kind) (id : ℕ) (stale : Bool) (a : Answer) (c : Change) : Type 0 where
+pub record Answered (q : Queries) (k : Kind) (id : ℕ) (stale : Bool) (a : Answer) (c : InputChange) : Type 0 where
   pub place : ℕ
   pub within : place < recordsIn q
   pub round : Round
@@ -118,13 +118,13 @@ again x n outcome.Failure = false
 again x n outcome.EchRetry = not (x .retry) && ltb n 32
 
 -- a result is accepted: the attempt ends as it says, and only of a cancelled one nothing changes
-abbrev pub Ends : Bool → ℕ → ℕ → Attempt → Outcome → Change → State → Type 0
+abbrev pub Ends : Bool → ℕ → ℕ → Attempt → Outcome → InputChange → State → Type 0
 Ends on n p x o c state.InProgress = Fits on x o × (c ≡ cond (again x n o) (change.Retries p (withState x (endOf o)) n) (change.Ends p (withState x (endOf o))))
 Ends on n p x o c state.Succeeded = ⊥
 Ends on n p x o c state.Failed = ⊥
 Ends on n p x o c state.Cancelled = c ≡ change.Nothing
 
-pub record Ended (on : Bool) (a : Attempts) (n : ℕ) (id : ℕ) (o : Outcome) (c : Change) : Type 0 where
+pub record Ended (on : Bool) (a : Attempts) (n : ℕ) (id : ℕ) (o : Outcome) (c : InputChange) : Type 0 where
   pub place : ℕ
   pub within : place < attemptsIn a
   pub own : attemptAt a place .id ≡ id
@@ -166,10 +166,8 @@ resultOf outcome.EchRetry id = input.EchRetry id
 -- Places
 
 -- a change lies inside its table of m records or k attempts; an input begins no query and no attempt
-abbrev pub Inside : ℕ → ℕ → ℕ → Change → Type 0
+abbrev pub Inside : ℕ → ℕ → ℕ → InputChange → Type 0
 Inside m k n change.Nothing = Unit {0}
-Inside m k n (change.Asks p x) = ⊥
-Inside m k n (change.Tries p x) = ⊥
 Inside m k n (change.Ends p x) = p < k
 Inside m k n (change.Retries p x r) = (p < k) × (r ≡ n) × (r < 32)
 Inside m k n (change.Holds p x) = p < m

@@ -14,7 +14,7 @@ use state::attempts::Attempt;
 use state::attempts::Attempts;
 use state::attempts::State;
 use state::attempts::with_state;
-use state::changes::Change;
+use state::changes::InputChange;
 use state::changes::Round;
 
 // An input without the addresses, services and bytes that come beside it. An answer has its type, the query's id and whether it is stale.
@@ -28,7 +28,7 @@ pub enum Input {
 }
 
 pub enum Verdict {
-    Accepted(Change),
+    Accepted(InputChange),
     Refused(Refusal),
 }
 
@@ -128,19 +128,19 @@ fn is_failed(a: Answer) -> bool
 }
 
 // What the record at p becomes, and with it the addresses or services.
-fn stored(p: usize, q: Query, answer: Answer, round: Round) -> Change
+fn stored(p: usize, q: Query, answer: Answer, round: Round) -> InputChange
     ensures { λ v. ⌜ v ≡ stored p q answer round ⌝ }
 {
     let k = q.kind;
     match k {
         Kind::Https => {
             if is_failed(answer) {
-                return Change::Empties(p, q);
+                return InputChange::Empties(p, q);
             }
-            Change::Offers(p, q, round)
+            InputChange::Offers(p, q, round)
         }
-        Kind::Aaaa => Change::Holds(p, q),
-        Kind::A => Change::Holds(p, q),
+        Kind::Aaaa => InputChange::Holds(p, q),
+        Kind::A => InputChange::Holds(p, q),
     }
 }
 
@@ -207,20 +207,23 @@ fn retry_verdict(on: bool, count: usize, p: usize, a: Attempt) -> Verdict
     }
     let failed = with_state(a, State::Failed);
     if a.retry {
-        return Verdict::Accepted(Change::Ends(p, failed));
+        return Verdict::Accepted(InputChange::Ends(p, failed));
     }
     if 32 <= count {
-        return Verdict::Accepted(Change::Ends(p, failed));
+        return Verdict::Accepted(InputChange::Ends(p, failed));
     }
-    Verdict::Accepted(Change::Retries(p, failed, count))
+    Verdict::Accepted(InputChange::Retries(p, failed, count))
 }
 
 fn outcome_verdict(on: bool, count: usize, p: usize, a: Attempt, outcome: Outcome) -> Verdict
     ensures { λ v. ⌜ v ≡ outcomeVerdict on count p a outcome ⌝ }
 {
     match outcome {
-        Outcome::Success => Verdict::Accepted(Change::Ends(p, with_state(a, State::Succeeded))),
-        Outcome::Failure => Verdict::Accepted(Change::Ends(p, with_state(a, State::Failed))),
+        Outcome::Success => Verdict::Accepted(InputChange::Ends(
+            p,
+            with_state(a, State::Succeeded),
+        )),
+        Outcome::Failure => Verdict::Accepted(InputChange::Ends(p, with_state(a, State::Failed))),
         Outcome::EchRetry => retry_verdict(on, count, p, a),
     }
 }
@@ -234,7 +237,7 @@ fn end_verdict(on: bool, count: usize, p: usize, a: Attempt, outcome: Outcome) -
         State::InProgress => outcome_verdict(on, count, p, a, outcome),
         State::Succeeded => Verdict::Refused(Refusal::AlreadyEnded),
         State::Failed => Verdict::Refused(Refusal::AlreadyEnded),
-        State::Cancelled => Verdict::Accepted(Change::Nothing),
+        State::Cancelled => Verdict::Accepted(InputChange::Nothing),
     }
 }
 

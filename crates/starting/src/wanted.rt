@@ -105,7 +105,7 @@ fn is_wanted(w: Wanted) -> bool
 }
 
 // HTTPS for a named origin, then in mode Ip its addresses. A record of the type is the origin's: those come first.
-fn origin_wanted(rules: Rules, k: Kinds) -> Wanted
+pub fn origin_wanted(rules: Rules, k: Kinds) -> Wanted
     ensures { λ r. ⌜ r ≡ originWanted rules k ⌝ }
 {
     let h = rules.host;

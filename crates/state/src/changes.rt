@@ -10,12 +10,20 @@ pub enum Round {
     Second,
 }
 
-pub enum Change {
+// What a call changes.
+pub enum CallChange {
     Nothing,
     // a new query record, or the record whose refresh is sent: an id is used
     Asks(usize, Query),
     // a new attempt: an id is used
     Tries(usize, Attempt),
+    // an attempt that is cancelled
+    Cancels(usize, Attempt),
+}
+
+// What an input changes.
+pub enum InputChange {
+    Nothing,
     // an attempt that ends
     Ends(usize, Attempt),
     // an attempt that ends with an ECH retry, which is number r

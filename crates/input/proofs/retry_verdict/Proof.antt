@@ -9,8 +9,8 @@ use Rattle.records.specs.Services.{hasEch}
 use Rattle.state.specs.State.{withState}
 use Rattle.state.specs.declared.attempts.Attempt.{Attempt}
 use Rattle.state.specs.declared.attempts.State.the-variants.{Failed}
-use Rattle.state.specs.declared.changes.Change.{Change}
-use Rattle.state.specs.declared.changes.Change.the-variants.{Ends, Retries}
+use Rattle.state.specs.declared.changes.InputChange.{InputChange}
+use Rattle.state.specs.declared.changes.InputChange.the-variants.{Ends, Retries}
 use Rattle.input.specs.declared.Verdict.the-variants.{Accepted, Refused}
 use Rattle.input.specs.Input.{retryVerdict}
 use borrow.Author.Needs.{needs}
@@ -27,7 +27,7 @@ sent : (on : Bool) (count p : ℕ) (a : Attempt) → (on && hasEch (a .endpoint 
     → Accepted (cond again (Retries p (withState a Failed) count) (Ends p (withState a Failed))) ≡ retryVerdict on count p a
 unfolding retryVerdict
 sent on count p a e again g =
-    let ends : Bool → Change = λ b. cond b (Retries p (withState a Failed) count) (Ends p (withState a Failed)) in
+    let ends : Bool → InputChange = λ b. cond b (Retries p (withState a Failed) count) (Ends p (withState a Failed)) in
     rw e (ap (λ b. Accepted (ends b)) (sym g))
 
 -- past the first two tests it was
