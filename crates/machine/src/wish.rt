@@ -117,7 +117,7 @@ fn rest_wish(timing: Timing, tries: Tries, asks: Asks, count: usize, now: u64) -
     }
 }
 
-// What is looked for among the records: retries, the next endpoint, queries beside the origin's. Most calls look for none of these.
+// What is looked for among the records: retries, the next endpoint, queries beside the origin's.
 pub struct Look {
     pub retry: bool,
     pub next: bool,
