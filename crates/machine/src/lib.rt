@@ -1,4 +1,5 @@
-// The machine: what the rules call for, what is given, and what an event changes (document 01, parts 6 and 7).
+// The machine: what the rules call for, what is given, what an event changes, and the two calls (document 01, parts 6 and 7).
 pub mod after;
+pub mod calls;
 pub mod grant;
 pub mod wish;

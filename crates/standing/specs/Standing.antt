@@ -41,15 +41,15 @@ use Rattle.records.specs.declared.services.Service.{Service}
 use Rattle.records.specs.declared.services.Services.{Services}
 use Rattle.records.specs.declared.endpoints.Target.{Target}
 use Rattle.records.specs.declared.endpoints.Target.the-variants.{V4, V6, Named}
 use Rattle.state.specs.declared.Machine.{Machine}
 use Rattle.state.specs.declared.attempts.State.{State}
 use Rattle.state.specs.declared.attempts.State.the-variants as state
 use Rattle.state.specs.declared.attempts.Attempt.{Attempt}
 use Rattle.state.specs.declared.attempts.Attempts.{Attempts}
 use Rattle.state.specs.declared.attempts.Retries.{Retries}
-use Rattle.state.specs.Lists.{_and_, _or_, all, every, everyAt, apart, total, has}
+use Rattle.standing.specs.Lists.{_and_, _or_, all, every, everyAt, apart, total, has}
 use Rattle.state.specs.Https.{prefixed}
 use Rattle.state.specs.State.{asked, tried, retriesOf, isOpen, hasWon, isPrefixed}
 
 -- Room
 

@@ -1,0 +1,1 @@
+// The standing rules: what holds of the machine at every moment. Definitions and laws, no code.
