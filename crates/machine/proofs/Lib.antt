@@ -1,5 +1,6 @@
 -- Laws that several proofs, and the crates above, cite.
 pub mod Filling
 pub mod Grants
+pub mod Looking
 pub mod Wishes
 pub mod Way
