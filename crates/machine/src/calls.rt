@@ -5,8 +5,8 @@ ghost use Rattle.records.specs.Names.{sameAt};
 ghost use Rattle.records.specs.Queries.{noQuery};
 ghost use Rattle.records.specs.Endpoints.{sameEndpoint};
 ghost use Rattle.state.specs.State.{noAttempt};
-ghost use Rattle.machine.specs.Output.{foundBy, wishBy, granted};
-ghost use Rattle.machine.specs.Steps.{outputStep, changeOf, takenOf, inputStep};
+ghost use Rattle.machine.specs.Output.{foundBy, granted};
+ghost use Rattle.machine.specs.Steps.{surveyOf, outputStep, changeOf, takenOf, inputStep};
 use super::after::TargetEchs;
 use super::after::TargetNames;
 use super::after::answers_fed;
@@ -50,6 +50,7 @@ use records::rules::Timing;
 use records::services::Services;
 use starting::classes::alike_of;
 use starting::surveys::Asks;
+use starting::surveys::Tries;
 use starting::surveys::asks_of;
 use starting::surveys::hints_of;
 use starting::surveys::tries_of;
@@ -87,6 +88,13 @@ pub struct InputStep {
     pub machine: Machine,
 }
 
+// What a call sees of attempts and records, and what it looks for.
+pub struct Survey {
+    pub tries: Tries,
+    pub asks: Asks,
+    pub look: Look,
+}
+
 // What is found among the records. The classes of names and ECH bytes are worked out only where something is looked for.
 fn found_in(
     look: Look,
@@ -121,21 +129,18 @@ fn found_in(
     )
 }
 
-// What the rules call for, over the machine's parts.
-fn wish_in(
+// With so many alternative services and retries.
+pub fn survey_of(
     rules: Rules,
     timing: Timing,
-    alts: Alts,
+    alts: usize,
     queries: Queries,
-    answers: Answers,
     services: Services,
     attempts: Attempts,
-    retries: Retries,
-    names: Names,
-    echs: Echs,
+    retries: usize,
     now: u64,
-) -> Wish
-    ensures { λ r. ⌜ r ≡ wishBy (sameAt names) (sameEndpoint names echs) rules timing alts queries answers services attempts retries now ⌝ }
+) -> Survey
+    ensures { λ r. ⌜ r ≡ surveyOf rules timing alts queries services attempts retries now ⌝ }
 {
     let tries = tries_of(attempts);
     let asks = asks_of(queries);
@@ -146,25 +151,12 @@ fn wish_in(
         tries,
         asks,
         hinted,
-        retries.count,
+        retries,
         services.count,
-        alts.count,
+        alts,
         now,
     );
-    let found = found_in(
-        look,
-        rules,
-        alts,
-        queries,
-        answers,
-        services,
-        attempts,
-        retries,
-        asks,
-        names,
-        echs,
-    );
-    wish_of(rules, timing, tries, asks, found, attempts.count, now)
+    Survey { tries, asks, look }
 }
 
 fn query_at(queries: Queries, p: usize) -> Query
@@ -186,7 +178,7 @@ fn attempt_at(attempts: Attempts, p: usize) -> Attempt
 }
 
 // What is given for a wish.
-fn turn_of(queries: Queries, attempts: Attempts, ids: IdGenerator, w: Wish, now: u64) -> Turn
+pub fn turn_of(queries: Queries, attempts: Attempts, ids: IdGenerator, w: Wish, now: u64) -> Turn
     ensures { λ r. ⌜ r ≡ granted queries attempts ids w now ⌝ }
 {
     let q = query_at(queries, wish_query(w));
@@ -198,19 +190,33 @@ fn turn_of(queries: Queries, attempts: Attempts, ids: IdGenerator, w: Wish, now:
 pub fn process_output(m: Machine, now: u64) -> OutputStep
     ensures { λ r. ⌜ r ≡ outputStep m now ⌝ }
 {
-    let w = wish_in(
+    let seen = survey_of(
         m.rules,
         m.timing,
+        m.alts.count,
+        m.queries,
+        m.services,
+        m.attempts,
+        m.retries.count,
+        now,
+    );
+    let tries = seen.tries;
+    let asks = seen.asks;
+    let look = seen.look;
+    let found = found_in(
+        look,
+        m.rules,
         m.alts,
         m.queries,
         m.answers,
         m.services,
         m.attempts,
         m.retries,
+        asks,
         m.names,
         m.echs,
-        now,
     );
+    let w = wish_of(m.rules, m.timing, tries, asks, found, m.attempts.count, now);
     let turn = turn_of(m.queries, m.attempts, m.ids, w, now);
     let output = turn.output;
     let change = turn.change;
