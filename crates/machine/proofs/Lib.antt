@@ -2,5 +2,6 @@
 pub mod Filling
 pub mod Grants
 pub mod Looking
+pub mod Stepped
 pub mod Wishes
 pub mod Way

@@ -39,7 +39,8 @@ returns c =
       q .queries-called .ensures,
       q .before .ids-called .ensures,
       t .turn-of .ensures,
-      wish-seen _ _ _ _ _ _ _ _ _ _ _ _ _ _ (f .before .before .before .before .survey-of .ensures) (f .found-in .ensures) (t .before .wish-of .ensures))
+      wish-seen _ _ _ _ _ _ _ _ _ _ _ _ _ _ (f .before .before .before .before .survey-of .ensures) (f .found-in .ensures) (t .before .wish-of .ensures),
+    )
 
 pub process-output-spec : {M : Type 1} → statement M
 process-output-spec =
