@@ -6,3 +6,5 @@ pub mod Asking
 pub mod Putting
 pub mod Trying
 pub mod Answering
+pub mod Https
+pub mod Offering
