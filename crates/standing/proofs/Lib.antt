@@ -8,3 +8,4 @@ pub mod Trying
 pub mod Answering
 pub mod Https
 pub mod Offering
+pub mod Inputs
