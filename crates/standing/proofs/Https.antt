@@ -147,11 +147,11 @@ name-stays n round t p l h =
     (outside round p h)
 
 -- the configuration's names are known from the making on
-setting-named : (k i : ℕ) → i < 5 → named k i ≡ true
+pub setting-named : (k i : ℕ) → i < 5 → named k i ≡ true
 unfolding named nameNeeds
 setting-named k i b = rw (lt-ltb i 5 b) (le-leb 0 k (omega arith))
 
-https-named : (k : ℕ) → named k 13 ≡ true
+pub https-named : (k : ℕ) → named k 13 ≡ true
 unfolding named nameNeeds
 https-named k = le-leb 0 k (omega arith)
 

@@ -9,3 +9,5 @@ pub mod Answering
 pub mod Https
 pub mod Offering
 pub mod Inputs
+pub mod Order
+pub mod Wanting
