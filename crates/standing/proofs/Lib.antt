@@ -11,3 +11,4 @@ pub mod Offering
 pub mod Inputs
 pub mod Order
 pub mod Wanting
+pub mod Listed

@@ -92,6 +92,11 @@ module _ {A : Type 0} where
   every-imp p q f [] h = refl
   every-imp p q f (x ∷ l) h = both (f x (left _ _ h)) (every-imp p q f l (right _ _ h))
 
+  pub every-all : (p : A → Bool) → ((x : A) → p x ≡ true) → (l : List A) → every p l ≡ true
+  unfolding every
+  every-all p f [] = refl
+  every-all p f (x ∷ l) = both (f x) (every-all p f l)
+
   pub every-join : (p : A → Bool) (a b : List A) → every p a ≡ true → every p b ≡ true → every p (a ++ b) ≡ true
   unfolding every
   every-join p [] b g h = h

@@ -14,7 +14,7 @@ use Rattle.records.specs.Lists.{some?}
 use Rattle.records.specs.Names.{sameAt}
 use Rattle.records.specs.Numbers.{kindNumber}
 use Rattle.records.specs.Rules.{isNamed, allowsSix, allowsFour, noAlt}
-use Rattle.records.specs.Services.{noService, offered, anyEch, isUsable}
+use Rattle.records.specs.Services.{blankService, offered, anyEch, isUsable}
 use Rattle.records.specs.declared.names.Names.{Names}
 use Rattle.records.specs.declared.rules.Rules.{Rules}
 use Rattle.records.specs.declared.rules.Alts.{Alts}
@@ -139,9 +139,9 @@ module _ (m : Machine) (h : Standing m) where
       go false n e f = absurd (omega (arith, eqb-true n 0 (or-second _ _ refl e)))
 
   -- service j
-  pub service-at : (j : ℕ) → j < length (offered (m .services)) → serviceStands (phase q) j (getD (offered (m .services)) j noService) ≡ true
+  pub service-at : (j : ℕ) → j < length (offered (m .services)) → serviceStands (phase q) j (getD (offered (m .services)) j blankService) ≡ true
   unfolding served
-  service-at j b = rw zero-add at (at-at (serviceStands (phase q)) 0 (offered (m .services)) j noService b (rule 1 _ (h .services)))
+  service-at j b = rw zero-add at (at-at (serviceStands (phase q)) 0 (offered (m .services)) j blankService b (rule 1 _ (h .services)))
 
   pub few-services : length (offered (m .services)) ≤ 4
   few-services = omega (arith, length-take (m .services .count) (m .services .list), h .room .services .size)
@@ -194,8 +194,8 @@ module _ (m : Machine) (h : Standing m) where
   targets-say : SaysBeside (targetsWanted (m .rules) q (m .services) (sameAt (m .names)))
   unfolding targetsWanted targetWanted serviceStands
   targets-say =
-      first-says _ noService 0 (offered (m .services))
-      (λ j b. let s = getD (offered (m .services)) j noService in
+      first-says _ blankService 0 (offered (m .services))
+      (λ j b. let s = getD (offered (m .services)) j blankService in
       if-beside (isUsable (anyEch (m .rules .ech) (m .services)) (s .ech)) (placeWanted (m .rules .preference) q (sameAt (m .names)) (s .name))
       (place-says (m .rules .preference) (s .name) (service-named (phase q) j (s .name) (offered-phase j b) (omega (arith, few-services)) (eqb-true _ _ (rule 0 _ (service-at j b))))))
 
