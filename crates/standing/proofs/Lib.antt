@@ -12,3 +12,4 @@ pub mod Inputs
 pub mod Order
 pub mod Wanting
 pub mod Listed
+pub mod Outputs

@@ -146,9 +146,9 @@ module _ (m : Machine) (h : Standing m) where
   pub few-services : length (offered (m .services)) ≤ 4
   few-services = omega (arith, length-take (m .services .count) (m .services .list), h .room .services .size)
 
-  abbrev pub Says : Wanted → Type 0
-  Says wanted.Nothing = Unit {0}
-  Says (wanted.Query k p) = Wants m k p
+  abbrev pub Asks : Wanted → Type 0
+  Asks wanted.Nothing = Unit {0}
+  Asks (wanted.Query k p) = Wants m k p
 
   -- a query beside the origin's
   record Beside (k : Kind) (p : ℕ) : Type 0 where
@@ -262,12 +262,12 @@ module _ (m : Machine) (h : Standing m) where
         order = agree-next (firstKeys (m .rules)) ks (keyAt k p) (past (firstKeys (m .rules)) ks (wanted.Query k p) (rw e at (origin-next (m .rules) ks (h .order)))) (h .order);
       }
 
-  origin-or : (w : Wanted) → SaysOrigin w → originWanted (m .rules) (kindsIn ks) ≡ w → (v : Wanted) → SaysBeside v → Says (orWanted w v)
+  origin-or : (w : Wanted) → SaysOrigin w → originWanted (m .rules) (kindsIn ks) ≡ w → (v : Wanted) → SaysBeside v → Asks (orWanted w v)
   origin-or (wanted.Query k p) f e v g = origin-wants k p f e
   origin-or wanted.Nothing f e (wanted.Query k p) g = beside-wants k p g e
   origin-or wanted.Nothing f e wanted.Nothing g = tt
 
-  origin-alone : (w : Wanted) → SaysOrigin w → originWanted (m .rules) (kindsIn ks) ≡ w → Says w
+  origin-alone : (w : Wanted) → SaysOrigin w → originWanted (m .rules) (kindsIn ks) ≡ w → Asks w
   origin-alone (wanted.Query k p) f e = origin-wants k p f e
   origin-alone wanted.Nothing f e = tt
 
@@ -275,7 +275,7 @@ module _ (m : Machine) (h : Standing m) where
   abbrev originIs : Bool → Mode → Wanted
   originIs b d = cond b (cond (some? (ofKind Https) ks) (originAddresses d (m .rules .preference) (kindsIn ks)) (wanted.Query Https (httpsPlace (m .rules)))) wanted.Nothing
 
-  mode-says : (b : Bool) (d : Mode) → agree (cond b (keysIn d (m .rules)) []) ks ≡ true → originWanted (m .rules) (kindsIn ks) ≡ originIs b d → Says (wantedIn d (originIs b d) others)
+  mode-says : (b : Bool) (d : Mode) → agree (cond b (keysIn d (m .rules)) []) ks ≡ true → originWanted (m .rules) (kindsIn ks) ≡ originIs b d → Asks (wantedIn d (originIs b d) others)
   mode-says true mode.Ip f e = origin-or (originIs true mode.Ip) (https-says _ _ f address-says) e others others-say
   mode-says true mode.Name f e = tt
   mode-says true mode.NameWithHttpsRr f e = origin-alone (originIs true mode.NameWithHttpsRr) (https-says _ _ f tt) e
@@ -287,6 +287,6 @@ module _ (m : Machine) (h : Standing m) where
   unfolding nextQuery wantedBy others
   by-keys = ap (λ k. wantedBy k (m .rules) (m .alts) q (m .services) (sameAt (m .names))) (sym (kinds-by-keys q))
 
-  pub query-says : Says (nextQuery (m .rules) (m .alts) q (m .services) (sameAt (m .names)))
+  pub query-says : Asks (nextQuery (m .rules) (m .alts) q (m .services) (sameAt (m .names)))
   unfolding originWanted originFirst firstKeys
   query-says = rw by-keys (mode-says (isNamed (m .rules .host)) (m .rules .mode) (h .order) refl)
