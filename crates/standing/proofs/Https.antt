@@ -155,7 +155,7 @@ pub https-named : (k : ℕ) → named k 13 ≡ true
 unfolding named nameNeeds
 https-named k = le-leb 0 k (omega arith)
 
-lies-stays : (on : Bool) (n t : Names) (p : ℕ) → nameBytesAt t p ≡ nameBytesAt n p → lies on n p ≡ true → lies on t p ≡ true
+pub lies-stays : (on : Bool) (n t : Names) (p : ℕ) → nameBytesAt t p ≡ nameBytesAt n p → lies on n p ≡ true → lies on t p ≡ true
 unfolding lies
 lies-stays on n t p e h = rw e h
 

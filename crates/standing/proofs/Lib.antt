@@ -13,3 +13,5 @@ pub mod Order
 pub mod Wanting
 pub mod Listed
 pub mod Outputs
+pub mod Prefix
+pub mod Making

@@ -213,6 +213,14 @@ module _ {A : Type 0} where
       (λ i y c e. let c′ : suc k + i ≡ k + suc i = omega arith in let d′ : n + suc i ≡ suc n + i = omega arith in rw d′ at (f (suc i) y (omega arith) (rw c′ at e)))
       (right _ _ h))
 
+  -- from each place, and at each place
+  pub at-of : (p : ℕ → A → Bool) (k : ℕ) (l : List A) (d : A) → ((i : ℕ) → i < length l → p (k + i) (getD l i d) ≡ true) → everyAt p k l ≡ true
+  unfolding everyAt
+  at-of p k [] d f = refl
+  at-of p k (x ∷ l) d f =
+      let e : k + 0 ≡ k = omega arith in
+      both (rw e at (f 0 (omega arith))) (at-of p (suc k) l d (λ i b. let g : suc k + i ≡ k + suc i = omega arith in rw g (f (suc i) (omega arith))))
+
   pub at-at : (p : ℕ → A → Bool) (k : ℕ) (l : List A) (i : ℕ) (d : A) → i < length l → everyAt p k l ≡ true → p (k + i) (getD l i d) ≡ true
   unfolding everyAt
   at-at p k [] i d b h = absurd (omega arith)

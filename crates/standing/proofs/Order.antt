@@ -45,7 +45,7 @@ kinds-by-keys q = rw (some-map keyOf (ofKind Https) (asked q), some-map keyOf (o
 
 -- Two lists that agree
 
-agree-none : (fs : List Key) → agree fs [] ≡ true
+pub agree-none : (fs : List Key) → agree fs [] ≡ true
 unfolding agree
 agree-none [] = refl
 agree-none (f ∷ fs) = refl
