@@ -1,15 +1,13 @@
 -- A refresh that begins, and an accepted answer of addresses, keep the rules.
 use Prim.Native.Nat.{ℕ, _+_, _<_, _≤_}
-use mathlib.Core.Path.{_≡_, refl, sym, ap, _∙_}
-use mathlib.Core.Bool.{Bool, true, false, not, cond}
+use mathlib.Core.Path.{_≡_, refl, sym, _∙_}
+use mathlib.Core.Bool.{Bool, true, false}
 use mathlib.Core.List.{[], _∷_, _++_, map, append-assoc}
 use native.Mathlib.Omega.{arith}
-use lib.Dec.{leb}
-use lib.ListN.{length, getD, set, length-set, length-map, List·getD-map}
+use lib.ListN.{length, set, length-set, length-map, List·getD-map}
 use lib.Seq.{map-set-same, getD-set-same, getD-set-other}
-use borrow.Author.Tests.{le-leb, lt-ltb, not-true}
+use borrow.Author.Tests.{le-leb, lt-ltb}
 use Rattle.records.specs.Queries.{noQuery, answered}
-use Rattle.records.specs.declared.queries.Addresses.{Addresses}
 use Rattle.records.specs.declared.queries.Answers.{Answers}
 use Rattle.records.specs.declared.queries.Kind.{Kind}
 use Rattle.records.specs.declared.queries.Kind.the-variants.{Https, Aaaa, A}
@@ -30,8 +28,8 @@ use Rattle.machine.specs.After.{putAddresses}
 use Rattle.machine.specs.Output.{refreshed}
 use Rattle.machine.specs.Steps.{called, fed}
 use Rattle.machine.specs.declared.calls.Beside.{Beside}
-use Rattle.standing.specs.Lists.{_and_, every}
-use Rattle.standing.specs.Standing.{emptyAddr, zero?, idle, flight, idsOf, begun, isHttps, steady, tidy, tidyQuery, heldOf, held, kindOf, addressesStand, addressed, phaseOf, holdsHttps}
+use Rattle.standing.specs.Lists.{_and_}
+use Rattle.standing.specs.Standing.{idle, idsOf, isHttps, steady, tidy, tidyQuery, heldOf, held, kindOf, addressesStand, addressed, phaseOf, holdsHttps}
 use Rattle.standing.proofs.Lists.{no, both, left, right, at-put, map-set, Grows}
 use Rattle.standing.proofs.Parts.{Standing, Numbered, to-fits, taken, numbers-more, numbers-less, numbers-same}
 use Rattle.standing.proofs.Tables.{put, query-put, next-id}

@@ -23,9 +23,9 @@ use Rattle.state.specs.declared.Machine.{Machine}
 use Rattle.state.specs.declared.changes.CallChange.the-variants.{Asks}
 use Rattle.machine.specs.Output.{newQuery}
 use Rattle.machine.specs.Steps.{called}
-use Rattle.standing.specs.Lists.{_and_, every, everyAt, total}
-use Rattle.standing.specs.Standing.{emptyQuery, emptyAddr, zero?, formed, pending, fits, recordIds, attemptId, idsOf, Key, keyOf, keyAt, keys, sameKey, isHttps, oneEach, httpsFirst, agree, isKey, firstKeys, originFirst, tidy, tidyQuery, heldOf, held, kindOf, addressesStand, addressed, queryPhase, phase, queryHolds, holding, named, namedKey}
-use Rattle.standing.proofs.Lists.{no, both, left, right, rule, all3, every-imp, every-last, at-imp, apart-last, used-more, used-last, total-append, each-last, map-set, Grows}
+use Rattle.standing.specs.Lists.{_and_, every, total}
+use Rattle.standing.specs.Standing.{emptyQuery, emptyAddr, zero?, formed, pending, recordIds, attemptId, idsOf, Key, keyOf, keyAt, keys, sameKey, isHttps, oneEach, httpsFirst, originFirst, tidy, tidyQuery, heldOf, held, kindOf, addressesStand, addressed, queryPhase, phase, queryHolds, holding, named, namedKey}
+use Rattle.standing.proofs.Lists.{no, both, left, rule, all3, every-imp, every-last, at-imp, apart-last, used-more, used-last, total-append, each-last, map-set, Grows}
 use Rattle.standing.proofs.Parts.{Standing, Recorded, to-fits, fits-more, fits-next, first-more, taken, numbers-more}
 use Rattle.standing.proofs.Tables.{push, query-more, next-id}
 use Rattle.standing.proofs.Same.{key-sym}

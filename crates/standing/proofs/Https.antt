@@ -1,21 +1,17 @@
 -- An accepted HTTPS answer, the first or a refresh's, keeps the rules.
-use Prim.Native.Nat.{ℕ, zero, suc, _+_, _-_, _*_, _<_, _≤_}
+use Prim.Native.Nat.{ℕ, _+_, _-_, _<_, _≤_}
 use mathlib.Core.Path.{_≡_, refl, sym, ap, _∙_}
 use mathlib.Core.Logic.{_⊎_, inl, inr, ⊎-elim}
-use mathlib.Core.Bool.{Bool, true, false, not, cond}
-use mathlib.Core.List.{List, [], _∷_, map}
-use native.Mathlib.Numerals.{add-one}
+use mathlib.Core.Bool.{Bool, true, false, cond}
+use mathlib.Core.List.{List, map}
 use native.Mathlib.Omega.{arith}
 use lib.Dec.{eqb, ltb, leb}
-use lib.ListN.{length, getD, take, drop, set, replicate, length-take, length-append, length-replicate, length-map, List·getD-map}
-use lib.Seq.{sets, length-sets, map-set-same, getD-take, getD-set-same, drop-at}
-use borrow.Author.Tests.{eqb-true, eq-eqb, ltb-true, ltb-false, leb-true, le-leb, le-ltb, lt-ltb, lt-leb}
-use Rattle.numbers.specs.Names.{nameOk}
-use Rattle.records.specs.Lists.{padded}
-use Rattle.records.specs.Names.{nameAt, nameBytes, nameBytesAt, sameAt, sameBytes}
+use lib.ListN.{length, getD, set, List·getD-map}
+use lib.Seq.{map-set-same, getD-take, getD-set-same}
+use borrow.Author.Tests.{eqb-true, eq-eqb, ltb-true, ltb-false, leb-true, le-leb, lt-ltb}
+use Rattle.records.specs.Names.{nameAt, nameBytesAt, sameAt}
 use Rattle.records.specs.Queries.{noQuery, answered}
 use Rattle.records.specs.Rules.{isNamed}
-use Rattle.records.specs.Services.{noService, noServices, offered}
 use Rattle.records.specs.declared.names.Name.{Name}
 use Rattle.records.specs.declared.names.Names.{Names}
 use Rattle.records.specs.declared.names.Ech.{Ech}
@@ -29,36 +25,29 @@ use Rattle.records.specs.declared.queries.Kind.the-variants.{Https}
 use Rattle.records.specs.declared.queries.Answer.{Answer}
 use Rattle.records.specs.declared.queries.Answer.the-variants.{Pending, Failed, Held}
 use Rattle.records.specs.declared.queries.Refresh.{Refresh}
-use Rattle.records.specs.declared.queries.Refresh.the-variants.{Idle, InFlight, Done}
+use Rattle.records.specs.declared.queries.Refresh.the-variants.{InFlight}
 use Rattle.records.specs.declared.queries.Query.{Query}
 use Rattle.records.specs.declared.queries.Queries.{Queries}
-use Rattle.records.specs.declared.services.Service.{Service}
 use Rattle.records.specs.declared.services.Services.{Services}
 use Rattle.records.specs.declared.endpoints.Target.{Target}
 use Rattle.records.specs.declared.endpoints.Target.the-variants.{V4, V6, Named}
-use Rattle.records.proofs.Rooms.{padded-take}
-use Rattle.state.specs.Changes.{firstName, firstEch}
+use Rattle.state.specs.Changes.{firstName}
 use Rattle.state.specs.State.{asked, tried, retriesOf}
 use Rattle.state.specs.declared.Machine.{Machine}
 use Rattle.state.specs.declared.attempts.Attempt.{Attempt}
-use Rattle.state.specs.declared.changes.InputChange.the-variants.{Empties, Offers}
 use Rattle.state.specs.declared.changes.Round.{Round}
 use Rattle.state.specs.declared.changes.Round.the-variants.{First, Second}
 use Rattle.input.specs.Input.{recordAt, withAnswer}
 use Rattle.input.specs.Verdicts.{Waits, MayBe, refreshAfter}
-use Rattle.machine.specs.After.{echPlace, placedAt, placedFrom, placedServices, putNames, putEchs}
-use Rattle.machine.specs.Steps.{fed}
+use Rattle.machine.specs.After.{putNames}
 use Rattle.machine.specs.declared.after.TargetNames.{TargetNames}
-use Rattle.machine.specs.declared.after.TargetEchs.{TargetEchs}
-use Rattle.machine.specs.declared.calls.Beside.{Beside}
-use Rattle.standing.specs.Lists.{_and_, _or_, all, every, everyAt, has}
-use Rattle.standing.specs.Standing.{zero?, emptyService, fits, keyOf, keys, sameKey, oneEach, steady, tidy, tidyQuery, heldOf, held, kindOf, addressed, come, phaseOf, queryPhase, phase, holdsHttps, queryHolds, holding, nameNeeds, named, namedKey, kept, targetIn, echIn, attemptIn, echOf, serviceStands, served, nameStands, echStands, ownName, lies, configured}
-use Rattle.standing.specs.Sound.{hintsSound, nameSound, echSound, sealed, servicesSound}
-use Rattle.standing.proofs.Lists.{no, both, left, right, rule, all2, all3, all4, or-imp, or-left, or-right, or-true, or-second, every-imp, every-replicate, at-imp, at-within, at-moved, at-sets, sets-before, sets-past, apart-like, used-same}
-use Rattle.standing.proofs.Parts.{Standing, Fits, Tabled, fits-put, to-fits, fits-of}
-use Rattle.standing.proofs.Tables.{put, query-put}
+use Rattle.standing.specs.Lists.{_and_, _or_, has}
+use Rattle.standing.specs.Standing.{zero?, emptyService, keyOf, keys, sameKey, oneEach, steady, tidy, tidyQuery, heldOf, held, kindOf, addressed, come, phaseOf, queryPhase, phase, holdsHttps, queryHolds, holding, nameNeeds, named, namedKey, kept, targetIn, echIn, attemptIn, served, nameStands, echStands, ownName, lies, configured}
+use Rattle.standing.proofs.Lists.{no, both, left, right, rule, all3, all4, or-imp, every-imp, at-imp, at-within, sets-before, sets-past, apart-like, used-same}
+use Rattle.standing.proofs.Parts.{Standing, Fits, Tabled, fits-put}
+use Rattle.standing.proofs.Tables.{put}
 use Rattle.standing.proofs.Putting.{tidy-at, tidy-put}
-use Rattle.standing.proofs.Answering.{answer-numbers, answer-steady, resting-of}
+use Rattle.standing.proofs.Answering.{answer-numbers, answer-steady}
 
 -- how many answers had come before
 abbrev pub before : Round → ℕ

@@ -1,15 +1,13 @@
 -- Every accepted input that is sound keeps the standing rules, and a refused one changes nothing.
 use Prim.Native.Nat.{ℕ, zero, suc, _+_, _<_, _≤_}
-use mathlib.Core.Path.{_≡_, refl, sym, ap, _∙_}
+use mathlib.Core.Path.{_≡_, refl, ap, _∙_}
 use mathlib.Core.Bool.{Bool, true, false, not, cond, _&&_}
-use mathlib.Core.List.{List, map}
+use mathlib.Core.List.{map}
 use native.Mathlib.Omega.{arith}
-use lib.Dec.{eqb, ltb}
 use lib.ListN.{length, getD, drop, length-drop, length-map, List·getD-map}
 use lib.Seq.{getD-take, getD-drop}
-use borrow.Author.Tests.{eqb-true, not-true}
+use borrow.Author.Tests.{eqb-true}
 use Rattle.records.specs.Queries.{noQuery, answered}
-use Rattle.records.specs.Services.{hasEch}
 use Rattle.records.specs.declared.queries.Kind.{Kind}
 use Rattle.records.specs.declared.queries.Kind.the-variants.{Https, Aaaa, A}
 use Rattle.records.specs.declared.queries.Answer.{Answer}
@@ -20,7 +18,6 @@ use Rattle.state.specs.State.{asked, isOpen, withState}
 use Rattle.state.specs.declared.Machine.{Machine}
 use Rattle.state.specs.declared.attempts.State.{State}
 use Rattle.state.specs.declared.attempts.State.the-variants as state
-use Rattle.state.specs.declared.attempts.Attempt.{Attempt}
 use Rattle.state.specs.declared.changes.InputChange.{InputChange}
 use Rattle.state.specs.declared.changes.InputChange.the-variants as change
 use Rattle.state.specs.declared.changes.Round.{Round}
@@ -35,8 +32,8 @@ use Rattle.input.specs.declared.Verdict.the-variants.{Accepted, Refused}
 use Rattle.input.proofs.Laws.{held-after, failed-after, ended-after}
 use Rattle.machine.specs.Steps.{fed, changeOf, judged, inputStep}
 use Rattle.machine.specs.declared.calls.Beside.{Beside}
-use Rattle.standing.specs.Lists.{_and_, every}
-use Rattle.standing.specs.Standing.{keyOf, keys, isHttps, httpsFirst, heldOf, holdsHttps, standing}
+use Rattle.standing.specs.Lists.{_and_}
+use Rattle.standing.specs.Standing.{keyOf, keys, isHttps, httpsFirst, heldOf, standing}
 use Rattle.standing.specs.Sound.{echSound, answerSound, sound}
 use Rattle.standing.proofs.Lists.{no, left, right, every-at, used-length}
 use Rattle.standing.proofs.Parts.{Standing, stands, parts}

@@ -1,22 +1,22 @@
 -- The places of what is attempted next are known: of a listed endpoint, and of a retry.
 use Prim.Native.Nat.{ℕ, zero, suc, _+_, _-_, _*_, _<_, _≤_}
 use mathlib.Core.Path.{_≡_, refl, sym, ap, _∙_}
-use mathlib.Core.Logic.{_⊎_, inl, inr, ⊎-elim}
-use mathlib.Core.Bool.{Bool, true, false, not, cond}
+use mathlib.Core.Logic.{_⊎_, ⊎-elim}
+use mathlib.Core.Bool.{Bool, true, false, cond}
 use mathlib.Core.List.{List, [], _∷_, map, List·Memᴰ, List·Memᴰ·not-nil, List·Memᴰ·cases-cons}
 use mathlib.Core.List.List·Memᴰ.{List·Memᴰ·head, List·Memᴰ·tail}
 use mathlib.Core.Option.{Option, none, some}
 use native.Mathlib.Omega.{arith}
-use lib.Dec.{eqb, ltb, leb}
-use lib.ListN.{length, getD, take, length-take, length-map, List·getD-map}
+use lib.Dec.{ltb, leb}
+use lib.ListN.{length, getD, take, length-take, length-map}
 use lib.Seq.{getD-take}
 use borrow.Author.Tests.{eqb-true, eq-eqb, lt-ltb, le-ltb, ltb-true}
 use Rattle.deal.specs.Interleaving.{consIf, keep, upto}
 use Rattle.records.specs.Lists.{each, firstOf}
 use Rattle.records.specs.Names.{sameAt}
 use Rattle.records.specs.References.{targetOf, endpointOf, literalAt, literalSix, literalFour}
-use Rattle.records.specs.Rules.{isNamed, allowsSix, allowsFour, byName}
-use Rattle.records.specs.Services.{blankService, offered, anyEch, isUsable}
+use Rattle.records.specs.Rules.{allowsSix, allowsFour, byName}
+use Rattle.records.specs.Services.{blankService, offered, anyEch}
 use Rattle.records.specs.declared.names.EchPlace.{EchPlace}
 use Rattle.records.specs.declared.names.EchPlace.the-variants.{Without, At}
 use Rattle.records.specs.declared.rules.Rules.{Rules}
@@ -37,7 +37,7 @@ use Rattle.records.specs.declared.references.Source.the-variants.{Held6, Held4,
 use Rattle.records.specs.declared.references.Item.{Item}
 use Rattle.records.proofs.First.{first-member}
 use Rattle.listing.specs.Held.{Same, heldTargets}
-use Rattle.listing.specs.Items.{run, runItems, itemOf}
+use Rattle.listing.specs.Items.{runItems, itemOf}
 use Rattle.listing.specs.Order.{insertAfter, sortedTo, byPriority}
 use Rattle.listing.specs.Listing.{echIf, portOr, hostRuns, serviceByName, serviceHeld, serviceHints, serviceRuns, enabled, fromHttpVersions, originOf, originTargets, originRuns, ownTargets, altTargets, altRuns, altsFrom, lastRuns, serviceAt, ordered, usable, tierItems, serviceTiers, tiers, endpointsToAttempt, isEnabled, rankOf, nothing, oneTarget}
 use Rattle.listing.specs.declared.hosts.HostTargets.{HostTargets}
@@ -45,10 +45,10 @@ use Rattle.listing.specs.declared.runs.Run.{Run}
 use Rattle.listing.proofs.Endpoints.{endpoint-from}
 use Rattle.state.specs.State.{tried, retriesOf, noAttempt}
 use Rattle.state.specs.declared.Machine.{Machine}
-use Rattle.starting.specs.Next.{Alike, attempted, nextOf, retriedAt, retryEndpoints, nextRetry, nextEndpoint}
+use Rattle.starting.specs.Next.{Alike, nextOf, retriedAt, retryEndpoints, nextRetry, nextEndpoint}
 use Rattle.starting.specs.declared.next.Next.{Next}
 use Rattle.starting.specs.declared.next.Next.the-variants as next
-use Rattle.standing.specs.Lists.{_and_, every, everyAt, has}
+use Rattle.standing.specs.Lists.{_and_, every, has}
 use Rattle.standing.specs.Standing.{phase, named, kept, targetIn, echIn, attemptIn, echOf, serviceStands, refused}
 use Rattle.standing.proofs.Lists.{both, left, right, rule, or-left, or-right, or-true, mark-in, every-imp, every-all, every-join, every-map, every-at, every-each}
 use Rattle.standing.proofs.Parts.{Standing}

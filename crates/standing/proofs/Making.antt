@@ -1,14 +1,14 @@
 -- The machine that is made stands.
 use Prim.Native.Nat.{ℕ, zero, suc, _+_, _-_, _<_, _≤_}
-use mathlib.Core.Path.{_≡_, refl, sym, ap, _∙_}
+use mathlib.Core.Path.{_≡_, refl, ap, _∙_}
 use mathlib.Core.Bool.{Bool, true, false, not, cond, _&&_}
 use mathlib.Core.List.{List, [], _∷_, map}
 use native.Mathlib.Nat.{zero-add}
 use native.Mathlib.Omega.{arith}
-use lib.Dec.{eqb, ltb, leb}
-use lib.ListN.{length, getD, take, drop, set, replicate, length-take, length-set, length-append, length-replicate, List·getD-map}
+use lib.Dec.{eqb, ltb}
+use lib.ListN.{length, getD, take, replicate, length-take, length-set, length-append, length-replicate, List·getD-map}
 use lib.Seq.{take-all, getD-set-same, getD-set-other, drop-at}
-use borrow.Author.Tests.{eqb-true, ne-eqb, eq-eqb, le-leb, leb-true, lt-ltb, le-ltb, ltb-true}
+use borrow.Author.Tests.{eqb-true, ne-eqb, le-leb, leb-true, lt-ltb, ltb-true}
 use Rattle.numbers.specs.Names.{nameOk}
 use Rattle.records.specs.Lists.{each, some?, cell, padded}
 use Rattle.records.specs.Names.{noEch, noEchs, noName, blankName, nameAt, nameBytes, nameBytesAt, withName, sameBytes}
@@ -17,7 +17,6 @@ use Rattle.records.specs.Rules.{isNamed, noAlt}
 use Rattle.records.specs.Services.{noService, noServices}
 use Rattle.records.specs.declared.names.Name.{Name}
 use Rattle.records.specs.declared.names.Names.{Names}
-use Rattle.records.specs.declared.rules.Alt.{Alt}
 use Rattle.records.specs.declared.rules.Alts.{Alts}
 use Rattle.records.specs.declared.rules.Rules.{Rules}
 use Rattle.records.specs.declared.rules.Timing.{Timing}
@@ -26,24 +25,20 @@ use Rattle.records.proofs.Bytes.{same-refl}
 use Rattle.records.proofs.Rooms.{padded-take}
 use Rattle.state.specs.Https.{prefixed, nameIn}
 use Rattle.state.specs.State.{noAttempt, noAttempts, noRetries, isPrefixed, firstNames, made}
-use Rattle.standing.specs.Lists.{_and_, _or_, all, every, everyAt, apart, total, has}
+use Rattle.standing.specs.Lists.{_and_, _or_, all, every, everyAt, apart, total}
 use Rattle.standing.specs.Making.{hasName, settingSound, configurationSound}
 use Rattle.standing.specs.Standing.{fits, zero?, emptyAlt, emptyQuery, emptyService, emptyAttempt, idsOf, keys, oneEach, httpsFirst, firstKeys, originFirst, emptyAddr, formed, held, kindOf, addressesStand, addressed, won, phase, holding, named, kept, served, nameStands, echStands, ownName, lies, configured, standing}
 use Rattle.standing.proofs.Lists.{no, both, left, right, rule, all3, all4, or-left, or-right, or-true, every-replicate, at-replicate, at-imp, at-set, at-of, at-at}
-use Rattle.standing.proofs.Parts.{Standing, Fits, Tabled, fits-of, to-fits, stands}
+use Rattle.standing.proofs.Parts.{Standing, Fits, fits-of, to-fits, zeros-fit, stands}
 use Rattle.standing.proofs.Asking.{no-addresses}
 use Rattle.standing.proofs.Https.{setting-named, https-named, lies-stays}
 use Rattle.standing.proofs.Offering.{none-empty}
 use Rattle.standing.proofs.Order.{agree-none}
 use Rattle.standing.proofs.Prefix.{name-there, prefix-ok, prefix-length}
 
--- an empty list in a room
-none-yet : {A : Type 0} (n : ℕ) (empty : A → Bool) (x : A) → empty x ≡ true → Fits n empty 0 (replicate n x)
-none-yet n empty x e = record { size = length-replicate n x; few = omega arith; rest = every-replicate empty n x e }
-
 no-bytes : (k : ℕ) (rs : List ℕ) (p : ℕ) → echStands k rs p noEch ≡ true
 unfolding echStands noEch
-no-bytes k rs p = both (fits-of (none-yet 512 zero? 0 refl)) (or-true (kept k rs p))
+no-bytes k rs p = both (fits-of (zeros-fit 512 zero? 0 refl)) (or-true (kept k rs p))
 
 zeros-at : {A : Type 0} (n : ℕ) (x : A) (i : ℕ) → getD (replicate n x) i x ≡ x
 zeros-at zero x i = refl
@@ -52,7 +47,7 @@ zeros-at (suc n) x (suc i) = zeros-at n x i
 
 no-address : addressesStand 0 Https noAddresses ≡ true
 unfolding addressesStand noAddresses all _and_
-no-address = both (fits-of (none-yet 8 emptyAddr noAddr refl)) (every-replicate (formed Https) 8 noAddr refl)
+no-address = both (fits-of (zeros-fit 8 emptyAddr noAddr refl)) (every-replicate (formed Https) 8 noAddr refl)
 
 no-answers : addressed noQueries noAnswers ≡ true
 unfolding addressed noQueries noAnswers
@@ -220,10 +215,10 @@ module _ (r : Rules) (l : Alts) (n : Names) (sound : configurationSound r l n �
       record {
         room = record {
           alts = alts-fit;
-          queries = none-yet 16 emptyQuery noQuery refl;
-          services = none-yet 4 emptyService noService none-empty;
-          attempts = none-yet 32 emptyAttempt noAttempt refl;
-          retries = none-yet 32 zero? 0 refl;
+          queries = zeros-fit 16 emptyQuery noQuery refl;
+          services = zeros-fit 4 emptyService noService none-empty;
+          attempts = zeros-fit 32 emptyAttempt noAttempt refl;
+          retries = zeros-fit 32 zero? 0 refl;
         };
         numbers = record { distinct = refl; below = refl; sum = refl };
         records = record { one = refl; https = refl; tidied = refl; size = length-replicate 16 noAddresses; zeros = no-answers };

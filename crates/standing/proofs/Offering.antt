@@ -1,18 +1,18 @@
 -- What an accepted HTTPS answer brings is kept as the rules want it: no service of a failed one, and services, names and ECH bytes of one that
 -- is held, at the places of its round.
-use Prim.Native.Nat.{ℕ, zero, suc, _+_, _-_, _*_, _<_, _≤_}
+use Prim.Native.Nat.{ℕ, suc, _+_, _-_, _*_, _<_, _≤_}
 use mathlib.Core.Path.{_≡_, refl, sym, ap, _∙_}
-use mathlib.Core.Bool.{Bool, true, false, not, cond}
+use mathlib.Core.Bool.{Bool, true, false, not}
 use mathlib.Core.List.{List, [], _∷_}
 use native.Mathlib.Nat.{zero-add}
 use native.Mathlib.Omega.{arith}
-use lib.Dec.{eqb, ltb, leb}
-use lib.ListN.{length, getD, take, drop, replicate, length-take, length-append, length-replicate}
-use lib.Seq.{sets, length-sets, drop-at}
-use borrow.Author.Tests.{eqb-true, eq-eqb, leb-true, le-ltb, lt-ltb}
+use lib.Dec.{leb}
+use lib.ListN.{length, take, replicate, length-take, length-append, length-replicate}
+use lib.Seq.{length-sets, drop-at}
+use borrow.Author.Tests.{eqb-true, eq-eqb, le-ltb, lt-ltb}
 use Rattle.numbers.specs.Names.{nameOk}
 use Rattle.records.specs.Lists.{padded}
-use Rattle.records.specs.Names.{nameBytes, nameBytesAt}
+use Rattle.records.specs.Names.{nameBytes}
 use Rattle.records.specs.Queries.{answered}
 use Rattle.records.specs.Services.{noService, noServices, offered}
 use Rattle.records.specs.declared.names.Name.{Name}
@@ -23,7 +23,6 @@ use Rattle.records.specs.declared.names.EchPlace.{EchPlace}
 use Rattle.records.specs.declared.names.EchPlace.the-variants.{Without, At}
 use Rattle.records.specs.declared.queries.Kind.the-variants.{Https}
 use Rattle.records.specs.declared.queries.Answer.{Answer}
-use Rattle.records.specs.declared.queries.Answer.the-variants.{Held}
 use Rattle.records.specs.declared.services.Service.{Service}
 use Rattle.records.specs.declared.services.Services.{Services}
 use Rattle.records.proofs.Rooms.{padded-take}
@@ -41,11 +40,11 @@ use Rattle.machine.specs.declared.after.TargetNames.{TargetNames}
 use Rattle.machine.specs.declared.after.TargetEchs.{TargetEchs}
 use Rattle.machine.specs.declared.calls.Beside.{Beside}
 use Rattle.standing.specs.Lists.{_and_, _or_, all, every, everyAt}
-use Rattle.standing.specs.Standing.{zero?, emptyHint, emptyService, fits, heldOf, holdsHttps, phase, nameNeeds, named, kept, echOf, serviceStands, served, nameStands, echStands}
-use Rattle.standing.specs.Sound.{hintsSound, nameSound, echSound, sealed, servicesSound}
+use Rattle.standing.specs.Standing.{zero?, emptyService, fits, heldOf, holdsHttps, nameNeeds, named, kept, echOf, serviceStands, served, nameStands, echStands}
+use Rattle.standing.specs.Sound.{hintsSound, nameSound, echSound, servicesSound}
 use Rattle.standing.proofs.Lists.{both, left, right, rule, all2, all3, all4, or-left, or-right, or-true, or-second, every-replicate, at-moved, at-sets}
-use Rattle.standing.proofs.Parts.{Standing, Fits, Tabled}
-use Rattle.standing.proofs.Tables.{put, query-put}
+use Rattle.standing.proofs.Parts.{Standing, Fits, Tabled, zeros-fit}
+use Rattle.standing.proofs.Tables.{query-put}
 use Rattle.standing.proofs.Https.{before, tables-up, name-stays, phase-was, https-stands}
 
 -- the places of a round are known once its answer has come
@@ -60,9 +59,6 @@ kept-new First rs i b = rw (lt-ltb (0 + i) 4 (omega arith))
 kept-new Second rs i b = rw (le-ltb (4 + i) 4 (omega arith), lt-ltb (4 + i) 8 (omega arith))
 
 -- Services
-
-zeros-fit : {A : Type 0} (n : ℕ) (empty : A → Bool) (x : A) → empty x ≡ true → Fits n empty 0 (replicate n x)
-zeros-fit n empty x e = record { size = length-replicate n x; few = omega arith; rest = every-replicate empty n x e }
 
 pub none-empty : emptyService noService ≡ true
 unfolding emptyService noService all _and_ fits every

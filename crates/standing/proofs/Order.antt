@@ -1,6 +1,6 @@
 -- The order of the first records: what the origin wants next is the next of the origin's keys, and once it wants nothing they are all there.
-use Prim.Native.Nat.{ℕ, zero, suc, _+_, _<_, _≤_}
-use mathlib.Core.Path.{_≡_, refl, sym, ap, _∙_}
+use Prim.Native.Nat.{ℕ, _+_, _≤_}
+use mathlib.Core.Path.{_≡_, refl, sym, ap}
 use mathlib.Core.Bool.{Bool, true, false, not, cond, _&&_}
 use mathlib.Core.List.{List, [], _∷_, _++_, map}
 use native.Mathlib.Omega.{arith}
@@ -13,7 +13,6 @@ use Rattle.records.specs.Rules.{isNamed, allowsSix, allowsFour}
 use Rattle.records.specs.declared.rules.Rules.{Rules}
 use Rattle.records.specs.declared.rules.Mode.{Mode}
 use Rattle.records.specs.declared.rules.Mode.the-variants as mode
-use Rattle.records.specs.declared.rules.Preference.{Preference}
 use Rattle.records.specs.declared.queries.Kind.{Kind}
 use Rattle.records.specs.declared.queries.Kind.the-variants.{Https, Aaaa, A}
 use Rattle.records.specs.declared.queries.Queries.{Queries}
@@ -23,7 +22,6 @@ use Rattle.starting.specs.Wanted.{missing, originAddresses, originWanted}
 use Rattle.starting.specs.declared.surveys.Kinds.{Kinds}
 use Rattle.starting.specs.declared.wanted.Wanted.{Wanted}
 use Rattle.starting.specs.declared.wanted.Wanted.the-variants as wanted
-use Rattle.standing.specs.Lists.{_and_}
 use Rattle.standing.specs.Standing.{Key, keyOf, keyAt, keys, isKey, agree, addressKeys, keysIn, firstKeys, originFirst}
 use Rattle.standing.proofs.Lists.{no, both, left, right}
 

@@ -1,11 +1,11 @@
 -- Whatever a call asks for may be asked for, and so every call keeps the standing rules.
-use Prim.Native.Nat.{ℕ, zero, suc, _+_, _<_, _≤_}
-use mathlib.Core.Path.{_≡_, refl, sym, ap, _∙_}
+use Prim.Native.Nat.{ℕ, suc, _+_, _<_, _≤_}
+use mathlib.Core.Path.{_≡_, refl}
 use mathlib.Core.Bool.{Bool, true, false, cond, _||_}
 use mathlib.Core.List.{List, [], _∷_}
 use native.Mathlib.Omega.{arith}
 use lib.Dec.{ltb, leb}
-use lib.ListN.{length, getD, take, length-take, length-map}
+use lib.ListN.{length, getD, take, length-map}
 use lib.Seq.{getD-take}
 use borrow.Author.Tests.{leb-false}
 use Rattle.records.specs.Endpoints.{sameEndpoint}
@@ -17,7 +17,7 @@ use Rattle.records.specs.declared.queries.Query.{Query}
 use Rattle.records.specs.declared.queries.Refresh.{Refresh}
 use Rattle.records.specs.declared.queries.Refresh.the-variants.{Idle, InFlight, Done}
 use Rattle.records.specs.declared.endpoints.Endpoint.{Endpoint}
-use Rattle.state.specs.State.{noAttempt, asked, tried, retriesOf, isOpen, newAttempt}
+use Rattle.state.specs.State.{noAttempt, asked, tried, retriesOf, isOpen}
 use Rattle.state.specs.declared.Machine.{Machine}
 use Rattle.state.specs.declared.attempts.State.the-variants.{Cancelled}
 use Rattle.input.specs.Input.{recordAt, attemptAt}
@@ -33,13 +33,13 @@ use Rattle.starting.specs.declared.surveys.Place.{Place}
 use Rattle.starting.specs.declared.surveys.Place.the-variants as place
 use Rattle.starting.specs.declared.wanted.Wanted.{Wanted}
 use Rattle.starting.specs.declared.wanted.Wanted.the-variants as wanted
-use Rattle.machine.specs.Output.{endWish, lastWish, timerWish, refreshWish, restWish, queryWish, attemptWish, retryWish, gate, wishBy, wishOf, reasonOf, queryGrant, attemptGrant, wishQuery, wishAttempt, grantBy, grantOf, granted}
+use Rattle.machine.specs.Output.{endWish, lastWish, timerWish, refreshWish, queryWish, attemptWish, retryWish, gate, wishBy, wishOf, reasonOf, queryGrant, attemptGrant, grantOf, granted}
 use Rattle.machine.specs.Steps.{called, turnOf, outputStep}
 use Rattle.machine.specs.declared.grant.Turn.{Turn}
 use Rattle.machine.specs.declared.wish.Wish.{Wish}
 use Rattle.machine.specs.declared.wish.Wish.the-variants as wish
 use Rattle.standing.specs.Lists.{_and_}
-use Rattle.standing.specs.Standing.{keys, isHttps, phase, standing}
+use Rattle.standing.specs.Standing.{keys, phase, standing}
 use Rattle.standing.proofs.Lists.{no, used-length}
 use Rattle.standing.proofs.Parts.{Standing, stands, parts}
 use Rattle.standing.proofs.Asking.{ask-stands}

@@ -6,7 +6,7 @@ use mathlib.Core.List.{List, [], _∷_, _++_, map}
 use native.Mathlib.Numerals.{add-one}
 use native.Mathlib.Omega.{arith}
 use lib.Dec.{eqb, ltb}
-use lib.ListN.{length, getD, drop, set, length-set, length-drop}
+use lib.ListN.{length, getD, drop, set, replicate, length-set, length-drop, length-replicate}
 use lib.Seq.{drop-set-lt, getD-drop}
 use borrow.Author.Tests.{leb-true, eqb-true, eq-eqb, le-leb}
 use Rattle.records.specs.declared.rules.Alts.{Alts}
@@ -20,9 +20,9 @@ use Rattle.state.specs.declared.Machine.{Machine}
 use Rattle.state.specs.declared.attempts.Attempt.{Attempt}
 use Rattle.state.specs.declared.attempts.Attempts.{Attempts}
 use Rattle.state.specs.declared.attempts.Retries.{Retries}
-use Rattle.standing.specs.Lists.{every, everyAt, apart, total, all}
+use Rattle.standing.specs.Lists.{every, everyAt, apart, total}
 use Rattle.standing.specs.Standing.{fits, zero?, emptyAlt, emptyQuery, emptyService, emptyAttempt, roomy, idsOf, begun, numbered, Key, keys, oneEach, httpsFirst, originFirst, tidyQuery, addressed, recorded, won, refused, opened, retried, phase, holding, namedKey, attemptIn, nameStands, echStands, placed, served, tabled, configured, standing}
-use Rattle.standing.proofs.Lists.{rule, all2, all3, all4, all5, all10, every-at, every-drop, Grows, grown-apart, grown-below, shrunk-apart, shrunk-every}
+use Rattle.standing.proofs.Lists.{rule, all2, all3, all4, all5, all10, every-at, every-drop, every-replicate, Grows, grown-apart, grown-below, shrunk-apart, shrunk-every}
 
 -- Numbers as they are, tests of lists as tests
 pub record Fits {A : Type 0} (n : ℕ) (empty : A → Bool) (count : ℕ) (l : List A) : Type 0 where
@@ -163,7 +163,10 @@ parts m h =
       settings = rule 9 _ h;
     }
 
--- Room: one more, one changed, and the next place
+-- Room: none yet, one more, one changed, and the next place
+
+pub zeros-fit : {A : Type 0} (n : ℕ) (empty : A → Bool) (x : A) → empty x ≡ true → Fits n empty 0 (replicate n x)
+zeros-fit n empty x e = record { size = length-replicate n x; few = omega arith; rest = every-replicate empty n x e }
 
 module _ {A : Type 0} {n : ℕ} {empty : A → Bool} {count : ℕ} {l : List A} (f : Fits n empty count l) where
   pub fits-more : (x : A) → count < n → Fits n empty (count + 1) (set l count x)

@@ -6,11 +6,10 @@ use mathlib.Core.List.{List, [], _∷_, _++_, append-assoc}
 use native.Mathlib.Nat.{mod-lt}
 use native.Mathlib.Omega.{arith}
 use lib.Dec.{eqb, ltb, leb}
-use lib.ListN.{length, take, length-append}
-use lib.Seq.{take-all}
-use borrow.Author.Tests.{le-leb, ne-eqb, eq-eqb}
+use lib.ListN.{length, length-append}
+use borrow.Author.Tests.{le-leb, ne-eqb}
 use Rattle.numbers.specs.Names.{every, between, isDigit, nameByte, dot, undotted, inFront, labels, last, labelOk, labelsOk, nameOk}
-use Rattle.state.specs.Https.{decimal, underscore, httpsLabel, prefixed, nameIn}
+use Rattle.state.specs.Https.{decimal, httpsLabel, prefixed}
 use Rattle.standing.proofs.Lists.{no}
 
 both : (a b : Bool) → a ≡ true → b ≡ true → (a && b) ≡ true

@@ -1,15 +1,14 @@
 -- A query that is wanted may be asked: its name's place is known, no record is for the same, an HTTPS record comes first, and the origin's come
 -- in their order.
-use Prim.Native.Nat.{ℕ, zero, suc, _+_, _*_, _<_, _≤_}
+use Prim.Native.Nat.{ℕ, suc, _+_, _*_, _<_, _≤_}
 use mathlib.Core.Path.{_≡_, refl, sym, ap, _∙_}
 use mathlib.Core.Logic.{_⊎_, inl, inr, ⊎-elim}
 use mathlib.Core.Bool.{Bool, true, false, not, cond, _&&_}
 use mathlib.Core.List.{List, [], _∷_, _++_, map}
 use native.Mathlib.Nat.{zero-add}
 use native.Mathlib.Omega.{arith}
-use lib.Dec.{eqb, ltb}
-use lib.ListN.{length, getD, take, length-take, length-map}
-use borrow.Author.Tests.{eqb-true, eqb-false, lt-ltb, le-ltb}
+use lib.ListN.{length, getD, take, length-take}
+use borrow.Author.Tests.{eqb-true, lt-ltb, le-ltb}
 use Rattle.records.specs.Lists.{some?}
 use Rattle.records.specs.Names.{sameAt}
 use Rattle.records.specs.Numbers.{kindNumber}
@@ -17,8 +16,6 @@ use Rattle.records.specs.Rules.{isNamed, allowsSix, allowsFour, noAlt}
 use Rattle.records.specs.Services.{blankService, offered, anyEch, isUsable}
 use Rattle.records.specs.declared.names.Names.{Names}
 use Rattle.records.specs.declared.rules.Rules.{Rules}
-use Rattle.records.specs.declared.rules.Alts.{Alts}
-use Rattle.records.specs.declared.rules.AltHost.{AltHost}
 use Rattle.records.specs.declared.rules.Mode.{Mode}
 use Rattle.records.specs.declared.rules.Mode.the-variants as mode
 use Rattle.records.specs.declared.rules.Preference.{Preference}
@@ -30,22 +27,18 @@ use Rattle.records.specs.declared.queries.Refresh.{Refresh}
 use Rattle.records.specs.declared.queries.Refresh.the-variants.{Idle, InFlight, Done}
 use Rattle.records.specs.declared.queries.Query.{Query}
 use Rattle.records.specs.declared.queries.Queries.{Queries}
-use Rattle.records.specs.declared.services.Service.{Service}
-use Rattle.records.specs.declared.services.Services.{Services}
 use Rattle.state.specs.State.{asked, isPrefixed, httpsPlace}
 use Rattle.state.specs.declared.Machine.{Machine}
-use Rattle.starting.specs.Surveys.{isKind, kindsOf}
 use Rattle.starting.specs.Wanted.{orWanted, firstWanted, isAskedAt, isAsked, askedFor, isMissing, missing, placeWanted, originAddresses, originWanted, targetWanted, targetsWanted, ownName, altWanted, altsWanted, wantedIn, wantedBy, nextQuery}
-use Rattle.starting.specs.declared.surveys.Kinds.{Kinds}
 use Rattle.starting.specs.declared.wanted.Wanted.{Wanted}
 use Rattle.starting.specs.declared.wanted.Wanted.the-variants as wanted
 use Rattle.standing.specs.Lists.{_and_, _or_, every}
-use Rattle.standing.specs.Standing.{zero?, Key, keyOf, keyAt, keys, sameKey, isHttps, agree, addressKeys, keysIn, firstKeys, originFirst, phaseOf, queryPhase, phase, holdsHttps, queryHolds, holding, nameNeeds, named, serviceStands, served}
+use Rattle.standing.specs.Standing.{zero?, Key, keyOf, keyAt, keys, sameKey, isHttps, agree, keysIn, firstKeys, originFirst, phaseOf, queryPhase, phase, holdsHttps, queryHolds, holding, nameNeeds, named, serviceStands, served}
 use Rattle.standing.proofs.Lists.{no, rule, or-second, every-imp, every-map, none-passes, eqb-sym, at-at}
 use Rattle.standing.proofs.Parts.{Standing}
 use Rattle.standing.proofs.Same.{at-sym}
 use Rattle.standing.proofs.Https.{setting-named, https-named}
-use Rattle.standing.proofs.Order.{ofKind, some-map, kindsIn, kinds-by-keys, agree-next, Nexts, past, origin-next, none-yet}
+use Rattle.standing.proofs.Order.{ofKind, kindsIn, kinds-by-keys, agree-next, past, origin-next, none-yet}
 
 pub record Wants (m : Machine) (k : Kind) (p : ℕ) : Type 0 where
   pub known : named (phase (m .queries)) p ≡ true

@@ -1,7 +1,7 @@
 -- An input in form: what reading a body gives (document 01, part 7). Counts fit, names are names, and all that is unused is zero.
 use Prim.Native.Nat.{ℕ}
 use mathlib.Core.Bool.{Bool, true, false, not}
-use mathlib.Core.List.{List, [], _∷_, map}
+use mathlib.Core.List.{[], _∷_, map}
 use lib.Dec.{eqb, leb}
 use lib.ListN.{length, getD}
 use Rattle.numbers.specs.Names.{nameOk}
