@@ -1,3 +1,4 @@
 pub mod Lists
 pub mod Standing
 pub mod Sound
+pub mod Making

@@ -1,9 +1,9 @@
 -- An input in form: what reading a body gives (document 01, part 7). Counts fit, names are names, and all that is unused is zero.
 use Prim.Native.Nat.{ℕ}
 use mathlib.Core.Bool.{Bool, true, false, not}
-use mathlib.Core.List.{List, [], _∷_, map}
+use mathlib.Core.List.{[], _∷_, map}
 use lib.Dec.{eqb, leb}
-use lib.ListN.{length, drop, getD}
+use lib.ListN.{length, getD}
 use Rattle.numbers.specs.Names.{nameOk}
 use Rattle.records.specs.Names.{nameBytes}
 use Rattle.records.specs.Services.{offered, hasEch}
@@ -11,36 +11,27 @@ use Rattle.records.specs.declared.names.Name.{Name}
 use Rattle.records.specs.declared.names.Ech.{Ech}
 use Rattle.records.specs.declared.queries.Kind.{Kind}
 use Rattle.records.specs.declared.queries.Kind.the-variants.{Https, Aaaa, A}
-use Rattle.records.specs.declared.queries.Addresses.{Addresses}
 use Rattle.records.specs.declared.services.Service.{Service}
 use Rattle.records.specs.declared.services.Services.{Services}
 use Rattle.standing.specs.Lists.{_and_, _or_, all, every, everyAt}
-use Rattle.standing.specs.Standing.{zero?, emptyAddr, emptyHint, formed}
+use Rattle.standing.specs.Standing.{fits, zero?, emptyHint, addressesStand}
 use Rattle.input.specs.declared.Input.{Input}
 use Rattle.input.specs.declared.Input.the-variants as input
 use Rattle.machine.specs.declared.after.TargetNames.{TargetNames}
 use Rattle.machine.specs.declared.after.TargetEchs.{TargetEchs}
 use Rattle.machine.specs.declared.calls.Beside.{Beside}
 
--- n addresses of a type, in a room of 8
-unfoldable pub addressesSound : Kind → ℕ → Addresses → Bool
-addressesSound k n l = all (leb n 8 ∷ eqb (length (l .list)) 8 ∷ every emptyAddr (drop n (l .list)) ∷ every (formed k) (l .list) ∷ [])
-
 -- a service's hints
 unfoldable pub hintsSound : Service → Bool
-hintsSound s = all (leb (s .n4) 4 ∷ every zero? (drop (s .n4) (s .v4)) ∷ leb (s .n6) 4 ∷ every emptyHint (drop (s .n6) (s .v6)) ∷ [])
+hintsSound s = fits 4 zero? (s .n4) (s .v4) and fits 4 emptyHint (s .n6) (s .v6)
 
 -- the name of service i, of n: there exactly if the service is
 unfoldable pub nameSound : ℕ → ℕ → Name → Bool
-nameSound n i x =
-    all (
-    leb (x .len) 253 ∷ eqb (length (x .bytes)) 253 ∷ every zero? (drop (x .len) (x .bytes))
-    ∷ (leb n i or nameOk (nameBytes x)) ∷ (not (leb n i) or zero? (x .len)) ∷ []
-    )
+nameSound n i x = all (fits 253 zero? (x .len) (x .bytes) ∷ (leb n i or nameOk (nameBytes x)) ∷ (not (leb n i) or zero? (x .len)) ∷ [])
 
 -- ECH bytes; none where there are none
 unfoldable pub echSound : Bool → Ech → Bool
-echSound there e = all (leb (e .len) 512 ∷ eqb (length (e .bytes)) 512 ∷ every zero? (drop (e .len) (e .bytes)) ∷ (there or zero? (e .len)) ∷ [])
+echSound there e = fits 512 zero? (e .len) (e .bytes) and (there or zero? (e .len))
 
 abbrev pub sealed : Service → Bool
 sealed s = hasEch (s .ech)
@@ -57,8 +48,8 @@ servicesSound s n e =
 -- an answer of a type with n addresses
 abbrev pub answerSound : Kind → ℕ → Beside → Bool
 answerSound Https n b = zero? n and servicesSound (b .services) (b .names) (b .echs)
-answerSound Aaaa n b = addressesSound Aaaa n (b .addresses)
-answerSound A n b = addressesSound A n (b .addresses)
+answerSound Aaaa n b = addressesStand n Aaaa (b .addresses)
+answerSound A n b = addressesStand n A (b .addresses)
 
 abbrev pub sound : Input → Beside → Bool
 sound (input.Fails k id stale) b = answerSound k 0 b

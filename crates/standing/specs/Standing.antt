@@ -1,5 +1,5 @@
 -- The standing rules: one test of the whole machine, made of small ones. Each takes only the parts that it reads, so that a step which leaves
--- these alone keeps it. That the made machine passes and every step keeps it is still to be proved.
+-- these alone keeps it. The made machine passes (proofs/Making.antt), and every step keeps it (proofs/Steps.antt).
 use Prim.Native.Nat.{ℕ, _+_, _-_, _*_, _^_}
 use mathlib.Core.Bool.{Bool, true, false, not, cond}
 use mathlib.Core.List.{List, [], _∷_, _++_, map}
@@ -9,7 +9,7 @@ use Rattle.numbers.specs.Names.{nameOk}
 use Rattle.records.specs.Lists.{each, some?}
 use Rattle.records.specs.Numbers.{kindNumber, rankNumber}
 use Rattle.records.specs.Names.{sameAt, nameBytes, nameBytesAt, sameBytes}
-use Rattle.records.specs.Rules.{isNamed}
+use Rattle.records.specs.Rules.{isNamed, allowsSix, allowsFour}
 use Rattle.records.specs.Services.{offered, hasEch}
 use Rattle.records.specs.declared.names.Name.{Name}
 use Rattle.records.specs.declared.names.Names.{Names}
@@ -26,6 +26,9 @@ use Rattle.records.specs.declared.rules.Port.{Port}
 use Rattle.records.specs.declared.rules.Port.the-variants as port
 use Rattle.records.specs.declared.rules.Version.{Version}
 use Rattle.records.specs.declared.rules.Version.the-variants as version
+use Rattle.records.specs.declared.rules.Mode.{Mode}
+use Rattle.records.specs.declared.rules.Mode.the-variants as mode
+use Rattle.records.specs.declared.rules.Preference.{Preference}
 use Rattle.records.specs.declared.queries.Kind.{Kind}
 use Rattle.records.specs.declared.queries.Kind.the-variants.{Https, Aaaa, A}
 use Rattle.records.specs.declared.queries.Answer.{Answer}
@@ -33,6 +36,7 @@ use Rattle.records.specs.declared.queries.Answer.the-variants as answer
 use Rattle.records.specs.declared.queries.Refresh.{Refresh}
 use Rattle.records.specs.declared.queries.Refresh.the-variants.{Idle, InFlight, Done}
 use Rattle.records.specs.declared.queries.Addr.{Addr}
+use Rattle.records.specs.declared.queries.Addresses.{Addresses}
 use Rattle.records.specs.declared.queries.Query.{Query}
 use Rattle.records.specs.declared.queries.Queries.{Queries}
 use Rattle.records.specs.declared.queries.Answers.{Answers}
@@ -49,7 +53,7 @@ use Rattle.state.specs.declared.attempts.Attempts.{Attempts}
 use Rattle.state.specs.declared.attempts.Retries.{Retries}
 use Rattle.standing.specs.Lists.{_and_, _or_, all, every, everyAt, apart, total, has}
 use Rattle.state.specs.Https.{prefixed}
-use Rattle.state.specs.State.{asked, tried, retriesOf, isOpen, hasWon, isPrefixed}
+use Rattle.state.specs.State.{asked, tried, retriesOf, isOpen, hasWon, isPrefixed, httpsPlace}
 
 -- Room
 
@@ -87,7 +91,7 @@ unfoldable pub emptyService : Service → Bool
 emptyService s =
     all (
     zero? (s .priority) ∷ zero? (s .name) ∷ not (hasEch (s .ech)) ∷ not (s .versions .h3) ∷ not (s .versions .h2) ∷ not (s .versions .h1) ∷ not (ownPort (s .port))
-    ∷ zero? (s .n4) ∷ every zero? (s .v4) ∷ zero? (s .n6) ∷ every emptyHint (s .v6) ∷ []
+    ∷ zero? (s .n4) ∷ fits 4 zero? (s .n4) (s .v4) ∷ zero? (s .n6) ∷ fits 4 emptyHint (s .n6) (s .v6) ∷ []
     )
 
 abbrev pub emptyTarget : Target → Bool
@@ -180,6 +184,34 @@ oneEach names ks = apart (sameKey names) ks
 unfoldable pub httpsFirst : List Key → Bool
 httpsFirst ks = every (λ k. not (isHttps (k .kind))) (drop 1 ks)
 
+-- what is asked for an origin that is a name, in this order (rule 5.1)
+abbrev pub keyAt : Kind → ℕ → Key
+keyAt k p = record { kind = k; name = p }
+
+unfoldable pub addressKeys : Preference → List Key
+addressKeys p = cond (allowsSix p) (keyAt Aaaa 0 ∷ []) [] ++ cond (allowsFour p) (keyAt A 0 ∷ []) []
+
+abbrev pub keysIn : Mode → Rules → List Key
+keysIn mode.Ip r = keyAt Https (httpsPlace r) ∷ addressKeys (r .preference)
+keysIn mode.Name r = []
+keysIn mode.NameWithHttpsRr r = keyAt Https (httpsPlace r) ∷ []
+
+unfoldable pub firstKeys : Rules → List Key
+firstKeys r = cond (isNamed (r .host)) (keysIn (r .mode) r) []
+
+abbrev pub isKey : Key → Key → Bool
+isKey a b = eqb (kindNumber (a .kind)) (kindNumber (b .kind)) and eqb (a .name) (b .name)
+
+-- two lists agree as far as both go
+unfoldable pub agree : List Key → List Key → Bool
+agree [] ks = true
+agree (f ∷ fs) [] = true
+agree (f ∷ fs) (k ∷ ks) = isKey f k and agree fs ks
+
+-- no other record before they all exist
+unfoldable pub originFirst : Rules → List Key → Bool
+originFirst r ks = agree (firstKeys r) ks
+
 -- in flight only of a stale answer; done: the answer is fresh
 abbrev pub steady : Bool → Refresh → Bool
 steady stale Idle = true
@@ -214,11 +246,11 @@ abbrev pub kindOf : Query → Kind
 kindOf q = q .kind
 
 -- the addresses of record i are of its type, and zeros past its count
+unfoldable pub addressesStand : ℕ → Kind → Addresses → Bool
+addressesStand n k a = fits 8 emptyAddr n (a .list) and every (formed k) (a .list)
+
 unfoldable pub addressed : Queries → Answers → Bool
-addressed q d =
-    everyAt
-    (λ i a. every emptyAddr (drop (getD (map held (q .list)) i 0) (a .list)) and (eqb (length (a .list)) 8 and every (formed (getD (map kindOf (q .list)) i Https)) (a .list)))
-    0 (d .list)
+addressed q d = everyAt (λ i. addressesStand (getD (map held (q .list)) i 0) (getD (map kindOf (q .list)) i Https)) 0 (d .list)
 
 unfoldable pub recorded : Names → Queries → Answers → Bool
 recorded names q d =
@@ -329,27 +361,22 @@ abbrev pub echOf : ℕ → EchPlace → Bool
 echOf p Without = true
 echOf p (At e) = eqb e p
 
-unfoldable pub sound : ℕ → ℕ → Service → Bool
-sound phase i s =
+unfoldable pub serviceStands : ℕ → ℕ → Service → Bool
+serviceStands phase i s =
     all (
-    eqb (s .name) (phase * 4 + 1 + i) ∷ echOf (phase * 4 - 4 + i) (s .ech)
-    ∷ leb (s .n4) 4 ∷ every zero? (drop (s .n4) (s .v4)) ∷ leb (s .n6) 4 ∷ every emptyHint (drop (s .n6) (s .v6)) ∷ []
+    eqb (s .name) (phase * 4 + 1 + i) ∷ echOf (phase * 4 - 4 + i) (s .ech) ∷ fits 4 zero? (s .n4) (s .v4) ∷ fits 4 emptyHint (s .n6) (s .v6) ∷ []
     )
 
 -- services only while the HTTPS answer is held
 unfoldable pub served : ℕ → Bool → Services → Bool
-served phase holds s = all ((holds or zero? (s .count)) ∷ everyAt (sound phase) 0 (offered s) ∷ [])
+served phase holds s = all ((holds or zero? (s .count)) ∷ everyAt (serviceStands phase) 0 (offered s) ∷ [])
 
 -- the tables are zero where nothing lies, and past each length; a name that is there is one
 unfoldable pub nameStands : ℕ → ℕ → Name → Bool
-nameStands phase p n =
-    all (
-    leb (n .len) 253 ∷ every zero? (drop (n .len) (n .bytes)) ∷ (named phase p or zero? (n .len))
-    ∷ (zero? (n .len) or nameOk (nameBytes n)) ∷ []
-    )
+nameStands phase p n = all (fits 253 zero? (n .len) (n .bytes) ∷ (named phase p or zero? (n .len)) ∷ (zero? (n .len) or nameOk (nameBytes n)) ∷ [])
 
 unfoldable pub echStands : ℕ → List ℕ → ℕ → Ech → Bool
-echStands phase retries p e = all (leb (e .len) 512 ∷ every zero? (drop (e .len) (e .bytes)) ∷ (kept phase retries p or zero? (e .len)) ∷ [])
+echStands phase retries p e = fits 512 zero? (e .len) (e .bytes) and (kept phase retries p or zero? (e .len))
 
 unfoldable pub tabled : ℕ → List ℕ → Names → Echs → Bool
 tabled phase retries n e =
@@ -383,6 +410,7 @@ standing m =
     roomy (m .alts) (m .queries) (m .services) (m .attempts) (m .retries)
     ∷ numbered (m .ids .next) (m .queries) (m .attempts)
     ∷ recorded (m .names) (m .queries) (m .answers)
+    ∷ originFirst (m .rules) (keys (m .queries))
     ∷ won (m .attempts)
     ∷ retried (m .attempts) (m .retries)
     ∷ placed (phase (m .queries)) (keys (m .queries)) (tried (m .attempts)) (retriesOf (m .retries))

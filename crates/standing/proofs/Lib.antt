@@ -1,0 +1,17 @@
+pub mod Lists
+pub mod Parts
+pub mod Tables
+pub mod Same
+pub mod Asking
+pub mod Putting
+pub mod Trying
+pub mod Answering
+pub mod Https
+pub mod Offering
+pub mod Inputs
+pub mod Order
+pub mod Wanting
+pub mod Listed
+pub mod Outputs
+pub mod Prefix
+pub mod Making
