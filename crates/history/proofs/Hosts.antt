@@ -1,0 +1,78 @@
+-- The punctual host, which calls at a timer's end and else at once, meets the premise of any machine.
+use Prim.Native.Nat.{ℕ, zero, suc, _+_, _≤_, _<_, _^_}
+use mathlib.Core.Path.{_≡_, refl, ap}
+use mathlib.Core.List.{List, [], _∷_, _++_}
+use native.Mathlib.Omega.{arith}
+use lib.ListN.{length}
+use Rattle.machine.specs.declared.grant.Output.{Output}
+use Rattle.machine.specs.declared.grant.Output.the-variants as output
+use Rattle.history.specs.History.{Automaton, Event, reading, calls, runs, from, rising, keeps, callsAt, Exactly, after, punctual, onClock}
+use Rattle.history.specs.Claims.{Premise, HostThere}
+
+pub many : (M : Automaton) (s : M .State) (t n : ℕ) → length (punctual M s t n) ≡ n
+unfolding punctual
+many M s t zero = refl
+many M s t (suc n) = ap suc (many M (M .next s t) (after (M .says s t) t) n)
+
+after-le : (a : Output) (t : ℕ) → t ≤ after a t
+after-le output.Waiting t = omega arith
+after-le (output.Query i k s p) t = omega arith
+after-le (output.Timer d) t = omega arith
+after-le (output.Attempt i r e) t = omega arith
+after-le (output.Cancel i) t = omega arith
+after-le output.Succeeded t = omega arith
+after-le (output.Failed r) t = omega arith
+after-le (output.Full x) t = omega arith
+
+-- Its readings rise
+
+from-then : (M : Automaton) (s : M .State) (t u n : ℕ) → u ≤ t → from {I = M .Input} u (calls (punctual M s t n))
+unfolding punctual from
+from-then M s t u zero l = tt
+from-then M s t u (suc n) l = (l, from-then M (M .next s t) (after (M .says s t) t) u n (let a = after-le (M .says s t) t in omega arith))
+
+rises : (M : Automaton) (s : M .State) (t n : ℕ) → rising {I = M .Input} (calls (punctual M s t n))
+unfolding punctual rising
+rises M s t zero = tt
+rises M s t (suc n) = (from-then M (M .next s t) (after (M .says s t) t) t n (after-le (M .says s t) t), rises M (M .next s t) (after (M .says s t) t) n)
+
+-- after a history whose last reading isn't later
+from-last : (M : Automaton) (s : M .State) (t u n : ℕ) (h : List (Event (M .Input))) → from u (h ++ calls (t ∷ [])) → from u (h ++ calls (punctual M s t n))
+unfolding from
+from-last M s t u n [] f = from-then M s t u n (f .0)
+from-last M s t u n (e ∷ h) f = (f .0, from-last M s t u n h (f .1))
+
+rises-after : (M : Automaton) (s : M .State) (t n : ℕ) (h : List (Event (M .Input))) → rising (h ++ calls (t ∷ [])) → rising (h ++ calls (punctual M s t n))
+unfolding rising
+rises-after M s t n [] r = rises M s t n
+rises-after M s t n (e ∷ h) r = (from-last M s t (reading e) n h (r .0), rises-after M s t n h (r .1))
+
+-- It calls as each timer ends
+
+at-first : (M : Automaton) (s : M .State) (t n : ℕ) (P : ℕ → Type 0) → P t → callsAt {I = M .Input} P (calls (punctual M s t n))
+unfolding punctual
+at-first M s t zero P p = tt
+at-first M s t (suc n) P p = p
+
+after-exactly : (a : Output) (t : ℕ) → after a t < 2 ^ 64 → Exactly a t (after a t)
+after-exactly output.Waiting t l = tt
+after-exactly (output.Query i k s p) t l = tt
+after-exactly (output.Timer d) t l = (refl, l)
+after-exactly (output.Attempt i r e) t l = tt
+after-exactly (output.Cancel i) t l = tt
+after-exactly output.Succeeded t l = tt
+after-exactly (output.Failed r) t l = tt
+after-exactly (output.Full x) t l = tt
+
+exact : (M : Automaton) (s : M .State) (t n : ℕ) → onClock M s t n → keeps Exactly M s (calls (punctual M s t n))
+unfolding punctual keeps onClock
+exact M s t zero c = tt
+exact M s t (suc n) c =
+    let a = M .says s t in
+    (at-first M (M .next s t) (after a t) n (Exactly a t) (after-exactly a t (c .0)), exact M (M .next s t) (after a t) n (c .1))
+
+pub host-there : (M : Automaton) → HostThere M
+unfolding HostThere
+host-there M before t n r c =
+    let s = runs M (M .made) before in
+    (record { never-back = rises-after M s t n before r; at-each-end = exact M s t n c }, many M s t n)

@@ -1,0 +1,6 @@
+pub mod History
+pub mod Claims
+pub mod Facts
+pub mod Race
+pub mod Edition
+pub mod Demand
