@@ -3,3 +3,10 @@ pub mod Marks
 pub mod Counting
 pub mod Calling
 pub mod Hosts
+pub mod Tables
+pub mod Changing
+pub mod Putting
+pub mod Rooms
+pub mod Granting
+pub mod Feeding
+pub mod Editions
