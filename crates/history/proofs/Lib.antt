@@ -10,3 +10,6 @@ pub mod Rooms
 pub mod Granting
 pub mod Feeding
 pub mod Editions
+pub mod Opening
+pub mod Wishing
+pub mod Ending
