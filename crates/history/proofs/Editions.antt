@@ -155,3 +155,8 @@ facts wish E r t l n =
       tries = λ m now o e. rest-stands m now (E .delays) (said wish E m now o) e (stands wish E m now o);
       fresh = λ m now i x e o k. rw k at (stands wish E m now o);
     }
+
+-- what stands over any history stands where the facts are used
+pub good-own : (wish : Machine → ℕ → Wish) (E : Edition wish) (r : Rules) (t : Timing) (l : Alts) (n : Names) (m : Machine) → facts wish E r t l n .Good m → Own m
+unfolding facts
+good-own wish E r t l n m o = o
