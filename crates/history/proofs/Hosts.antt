@@ -1,7 +1,8 @@
 -- The punctual host, which calls at a timer's end and else at once, meets the premise of any machine.
-use Prim.Native.Nat.{ℕ, zero, suc, _+_, _≤_, _<_, _^_}
+use Prim.Native.Nat.{ℕ, zero, suc, _+_, _*_, _≤_, _<_, _^_}
 use mathlib.Core.Path.{_≡_, refl, ap}
 use mathlib.Core.List.{List, [], _∷_, _++_}
+use native.Mathlib.Nat.{mul-suc}
 use native.Mathlib.Omega.{arith}
 use lib.ListN.{length}
 use Rattle.machine.specs.declared.grant.Output.{Output}
@@ -31,7 +32,7 @@ unfolding punctual from
 from-then M s t u zero l = tt
 from-then M s t u (suc n) l = (l, from-then M (M .next s t) (after (M .says s t) t) u n (let a = after-le (M .says s t) t in omega arith))
 
-rises : (M : Automaton) (s : M .State) (t n : ℕ) → rising {I = M .Input} (calls (punctual M s t n))
+pub rises : (M : Automaton) (s : M .State) (t n : ℕ) → rising {I = M .Input} (calls (punctual M s t n))
 unfolding punctual rising
 rises M s t zero = tt
 rises M s t (suc n) = (from-then M (M .next s t) (after (M .says s t) t) t n (after-le (M .says s t) t), rises M (M .next s t) (after (M .says s t) t) n)
@@ -64,7 +65,7 @@ after-exactly output.Succeeded t l = tt
 after-exactly (output.Failed r) t l = tt
 after-exactly (output.Full x) t l = tt
 
-exact : (M : Automaton) (s : M .State) (t n : ℕ) → onClock M s t n → keeps Exactly M s (calls (punctual M s t n))
+pub exact : (M : Automaton) (s : M .State) (t n : ℕ) → onClock M s t n → keeps Exactly M s (calls (punctual M s t n))
 unfolding punctual keeps onClock
 exact M s t zero c = tt
 exact M s t (suc n) c =
@@ -76,3 +77,23 @@ unfolding HostThere
 host-there M before t n r c =
     let s = runs M (M .made) before in
     (record { never-back = rises-after M s t n before r; at-each-end = exact M s t n c }, many M s t n)
+
+-- so all ends are on the clock where no timer is longer than b and there is room for n of them
+after-by : (b : ℕ) (a : Output) (t : ℕ) → ((d : ℕ) → a ≡ output.Timer d → d ≤ b) → after a t ≤ t + b
+after-by b output.Waiting t h = omega arith
+after-by b (output.Query i k s p) t h = omega arith
+after-by b (output.Timer d) t h = let z = h d refl in omega arith
+after-by b (output.Attempt i r e) t h = omega arith
+after-by b (output.Cancel i) t h = omega arith
+after-by b output.Succeeded t h = omega arith
+after-by b (output.Failed r) t h = omega arith
+after-by b (output.Full x) t h = omega arith
+
+pub on-clock : (M : Automaton) (b : ℕ) → ((s : M .State) (t d : ℕ) → M .says s t ≡ output.Timer d → d ≤ b)
+    → (s : M .State) (t n : ℕ) → t + b * n < 2 ^ 64 → onClock M s t n
+unfolding onClock
+on-clock M b h s t zero l = tt
+on-clock M b h s t (suc n) l =
+    let z = after-by b (M .says s t) t (h s t) in
+    let y = mul-suc b n in
+    (omega arith, on-clock M b h (M .next s t) (after (M .says s t) t) n (omega arith))

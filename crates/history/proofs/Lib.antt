@@ -13,3 +13,5 @@ pub mod Editions
 pub mod Opening
 pub mod Wishing
 pub mod Ending
+pub mod Slowest
+pub mod Needed

@@ -4,3 +4,5 @@ pub mod Facts
 pub mod Race
 pub mod Edition
 pub mod Demand
+pub mod Slowest
+pub mod Needed
