@@ -17,7 +17,7 @@ use Rattle.history.proofs.Marks.{ahead, ahead-le, ahead-one, ahead-none
 use Rattle.history.proofs.Counting.{one-le, answers-calls, inputs-calls, take-finals, unheeded-answers, rising-after}
 
 -- no reading precedes 0
-from-zero : {I : Type 0} (h : List (Event I)) → from 0 h
+pub from-zero : {I : Type 0} (h : List (Event I)) → from 0 h
 unfolding from
 from-zero [] = tt
 from-zero (e ∷ h) = (omega arith, from-zero h)

@@ -1,10 +1,13 @@
 -- The punctual host, which calls at a timer's end and else at once, meets the premise of any machine.
 use Prim.Native.Nat.{ℕ, zero, suc, _+_, _*_, _≤_, _<_, _^_}
 use mathlib.Core.Path.{_≡_, refl, ap}
+use mathlib.Core.Bool.{Bool, true, false, false≢true, cond}
 use mathlib.Core.List.{List, [], _∷_, _++_}
 use native.Mathlib.Nat.{mul-suc}
 use native.Mathlib.Omega.{arith}
+use lib.Dec.{ltb}
 use lib.ListN.{length}
+use borrow.Author.Tests.{ltb-true}
 use Rattle.machine.specs.declared.grant.Output.{Output}
 use Rattle.machine.specs.declared.grant.Output.the-variants as output
 use Rattle.history.specs.History.{Automaton, Event, reading, calls, runs, from, rising, keeps, callsAt, Exactly, after, punctual, onClock}
@@ -97,3 +100,19 @@ on-clock M b h s t (suc n) l =
     let z = after-by b (M .says s t) t (h s t) in
     let y = mul-suc b n in
     (omega arith, on-clock M b h (M .next s t) (after (M .says s t) t) n (omega arith))
+
+-- the same by computing, for a history that is written out
+unfoldable pub isOnClock : (M : Automaton) → M .State → ℕ → ℕ → Bool
+isOnClock M s t zero = true
+isOnClock M s t (suc n) = cond (ltb (after (M .says s t) t) (2 ^ 64)) (isOnClock M (M .next s t) (after (M .says s t) t) n) false
+
+pub computed-on-clock : (M : Automaton) (s : M .State) (t n : ℕ) → isOnClock M s t n ≡ true → onClock M s t n
+unfolding onClock isOnClock
+computed-on-clock M s t zero e = tt
+computed-on-clock M s t (suc n) e =
+    let u = after (M .says s t) t in
+    both (ltb u (2 ^ 64)) (isOnClock M (M .next s t) u n) (λ a. ltb-true u (2 ^ 64) a) (computed-on-clock M (M .next s t) u n) e
+  where
+    both : {X Y : Type 0} (a b : Bool) → (a ≡ true → X) → (b ≡ true → Y) → cond a b false ≡ true → X × Y
+    both true b x y e = (x refl, y e)
+    both false b x y e = absurd (false≢true e)

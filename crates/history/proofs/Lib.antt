@@ -15,3 +15,4 @@ pub mod Wishing
 pub mod Ending
 pub mod Slowest
 pub mod Needed
+pub mod Histories

@@ -1,17 +1,17 @@
--- 95 and 288 are the least numbers that the facts give, and no part of the premise can be spared.
+-- 95 and 288 are the least numbers that the facts give, and with a timer of 0 there would be none.
 use Prim.Native.Nat.{ℕ, zero, suc, _+_, _≤_, _<_, _^_}
 use mathlib.Core.Path.{_≡_, refl}
 use mathlib.Core.Bool.{Bool, true, false, cond}
 use mathlib.Core.List.{List, [], _∷_, _++_}
 use native.Mathlib.Omega.{arith}
 use lib.Dec.{eqb}
-use lib.ListN.{length, take, replicate, length-replicate}
+use lib.ListN.{length, take}
 use Rattle.machine.specs.declared.grant.Output.the-variants as output
-use Rattle.history.specs.History.{Automaton, Event, call, calls, runs, answers, asksIn, finalsIn, from, rising, after, punctual, onClock}
+use Rattle.history.specs.History.{Automaton, Event, calls, runs, answers, asksIn, finalsIn, from, rising, after, punctual, onClock}
 use Rattle.history.specs.Claims.{By288, HostThere, Premise}
 use Rattle.history.specs.Slowest.{slowest, slowAfter, slowSays, slowNext, zeroTimer, zeroSays}
-use Rattle.history.specs.Needed.{ClockBack, AnyTime, AtMost94, By287}
-use Rattle.history.proofs.Hosts.{many, rises, exact, on-clock, host-there}
+use Rattle.history.specs.Needed.{AtMost94, By287}
+use Rattle.history.proofs.Hosts.{on-clock, host-there}
 use Rattle.history.proofs.Slowest.{short}
 
 -- Numbers
@@ -40,46 +40,6 @@ not-287 h =
     let p = host-there-at slowest [] 0 287 (tt, tt) (on-clock slowest 2 short (slowest .made) 0 287 (omega arith)) in
     let z = h [] (punctual slowest (slowest .made) 0 287) (p .0) (omega (arith, p .1)) in
     let y = none-of-287 in
-    omega arith
-
--- A clock that went back: the query at 10,000, then a punctual host from 0 on
-
-abbrev back : List (Event (slowest .Input))
-back = call 10_000 ∷ []
-
-none-of-288 : finalsIn (take 288 (answers slowest (runs slowest (slowest .made) back) (calls (punctual slowest (runs slowest (slowest .made) back) 0 288)))) ≡ 0
-unfolding runs finalsIn answers punctual slowSays slowAfter slowNext
-none-of-288 = refl
-
-pub never-back-needed : ClockBack slowest → ⊥
-unfolding ClockBack
-never-back-needed h =
-    let s = runs slowest (slowest .made) back in
-    let z = h back (punctual slowest s 0 288) (rises slowest s 0 288) (exact slowest s 0 288 (on-clock slowest 2 short s 0 288 (omega arith))) (omega (arith, many slowest s 0 288)) in
-    let y = none-of-288 in
-    omega arith
-
--- A host that calls at 0 again and again
-
-at-once : (I : Type 0) (t n : ℕ) → from {I = I} t (calls (replicate n t))
-unfolding from
-at-once I t zero = tt
-at-once I t (suc n) = (omega arith, at-once I t n)
-
-same-time : (I : Type 0) (t n : ℕ) → rising {I = I} (calls (replicate n t))
-unfolding rising
-same-time I t zero = tt
-same-time I t (suc n) = (at-once I t n, same-time I t n)
-
-none-at-once : finalsIn (take 288 (answers slowest (slowest .made) (calls (replicate 288 0)))) ≡ 0
-unfolding finalsIn answers slowSays slowAfter slowNext
-none-at-once = refl
-
-pub timers-needed : AnyTime slowest → ⊥
-unfolding AnyTime runs
-timers-needed h =
-    let z = h [] (replicate 288 0) (same-time (slowest .Input) 0 288) (omega (arith, length-replicate {A = ℕ} 288 0)) in
-    let y = none-at-once in
     omega arith
 
 -- A timer of 0
