@@ -9,7 +9,7 @@ use lib.ListN.{length, take}
 use Rattle.machine.specs.declared.grant.Output.the-variants as output
 use Rattle.history.specs.History.{Automaton, Event, calls, runs, answers, asksIn, finalsIn, from, rising, after, punctual, onClock}
 use Rattle.history.specs.Claims.{By288, HostThere, Premise}
-use Rattle.history.specs.Slowest.{slowest, slowAfter, slowSays, slowNext, zeroTimer, zeroSays}
+use Rattle.history.specs.Slowest.{slowest, does, due, zeroTimer, zeroSays}
 use Rattle.history.specs.Needed.{AtMost94, By287}
 use Rattle.history.proofs.Hosts.{on-clock, host-there}
 use Rattle.history.proofs.Slowest.{short}
@@ -23,7 +23,7 @@ unfolding HostThere
 host-there-at M = host-there M
 
 asks-95 : asksIn (answers slowest (slowest .made) (calls (punctual slowest (slowest .made) 0 287))) ≡ 95
-unfolding asksIn answers punctual slowSays slowAfter slowNext
+unfolding asksIn answers punctual does due
 asks-95 = refl
 
 pub not-94 : AtMost94 slowest → ⊥
@@ -31,7 +31,7 @@ unfolding AtMost94
 not-94 h = let z = h (calls (punctual slowest (slowest .made) 0 287)) in let y = asks-95 in omega arith
 
 none-of-287 : finalsIn (take 287 (answers slowest (slowest .made) (calls (punctual slowest (slowest .made) 0 287)))) ≡ 0
-unfolding finalsIn answers punctual slowSays slowAfter slowNext
+unfolding finalsIn answers punctual does due
 none-of-287 = refl
 
 pub not-287 : By287 slowest → ⊥
