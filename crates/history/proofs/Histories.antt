@@ -1,0 +1,85 @@
+-- Two histories of Braidhatch itself in which a timer is given for ever: after a clock that went back, and to a host that doesn't wait.
+use Prim.Native.Nat.{ℕ, zero, suc, _+_, _≤_, _<_}
+use mathlib.Core.Path.{_≡_, refl}
+use mathlib.Core.Bool.{true, false}
+use mathlib.Core.List.{List, [], _∷_, _++_}
+use native.Mathlib.Omega.{arith}
+use lib.ListN.{length, take, replicate, length-replicate}
+use Rattle.records.specs.Lists.{some?, firstOf}
+use Rattle.records.specs.Queries.{noQueries}
+use Rattle.records.specs.Rules.{noAlts}
+use Rattle.records.specs.Services.{noServices, offered}
+use Rattle.records.specs.declared.names.Names.{Names}
+use Rattle.records.specs.declared.queries.Kind.the-variants.{Https, Aaaa}
+use Rattle.state.specs.State.{made, noAttempts, noRetries, firstNames, isPrefixed, httpsPlace}
+use Rattle.state.specs.declared.Machine.{Machine}
+use Rattle.starting.specs.Surveys.{firstPlace, latestOf, oldestOf, starts, triesOf, answerTimes, asksOf, hintsOf}
+use Rattle.starting.specs.Starting.{elapsed, attemptLeft, resolutionLeft, someAddress, preferredSettled, moveOnWithoutTimeout, moveOnWithTimeout, mayStart}
+use Rattle.starting.specs.Wanted.{firstWanted, missing, originWanted, targetsWanted, altsWanted, wantedBy, nextQuery}
+use Rattle.starting.specs.Next.{retryEndpoints, nextRetry}
+use Rattle.input.specs.Input.{askedFrom, askedOf, firstAnswer, answerVerdict}
+use Rattle.machine.specs.declared.calls.Beside.{Beside}
+use Rattle.machine.specs.declared.grant.Output.the-variants as output
+use Rattle.machine.specs.Output.{lastWish, timerWish, gate, wishBy, wishOf, queryGrant, grantOf, granted}
+use Rattle.machine.specs.After.{putQuery}
+use Rattle.machine.specs.Steps.{turnOf, outputStep, judged, inputStep}
+use Rattle.history.specs.History.{Automaton, calls, from, rising, runs, answers, finalsIn, punctual}
+use Rattle.history.specs.Race.{Fed, race}
+use Rattle.history.specs.Needed.{ClockBack, AnyTime, sixOnly, tenLong, asksThenHears}
+use Rattle.history.proofs.Calling.{from-zero}
+use Rattle.history.proofs.Hosts.{many, rises, exact, isOnClock, computed-on-clock}
+
+-- calls at one reading
+at-once : (I : Type 0) (t n : ℕ) → from {I = I} t (calls (replicate n t))
+unfolding from
+at-once I t zero = tt
+at-once I t (suc n) = (omega arith, at-once I t n)
+
+same-time : (I : Type 0) (t n : ℕ) → rising {I = I} (calls (replicate n t))
+unfolding rising
+same-time I t zero = tt
+same-time I t (suc n) = (at-once I t n, same-time I t n)
+
+module _ (n : Names) (b : Beside) where
+  abbrev M : Automaton
+  M = race sixOnly tenLong noAlts n
+
+  abbrev heard : ℕ → Machine
+  heard t = runs M (M .made) (asksThenHears b t)
+
+  -- the answers: two queries, and once the clock is back, the whole delay again and again
+  pub ten-again : answers M (M .made) (asksThenHears b 1_000_000 ++ calls (0 ∷ 10 ∷ []))
+      ≡ output.Query 0 Https true 0 ∷ output.Query 1 Aaaa true 0 ∷ output.Timer 10 ∷ output.Timer 10 ∷ []
+  unfolding answers made outputStep turnOf wishOf wishBy granted grantOf queryGrant noQueries noAttempts noServices noRetries noAlts triesOf asksOf hintsOf some? starts latestOf firstPlace answerTimes oldestOf nextRetry retryEndpoints firstOf gate attemptLeft mayStart moveOnWithoutTimeout moveOnWithTimeout someAddress nextQuery wantedBy originWanted missing targetsWanted altsWanted firstWanted httpsPlace isPrefixed putQuery inputStep judged answerVerdict askedOf askedFrom firstAnswer timerWish resolutionLeft elapsed
+  ten-again = refl
+
+  none-back : finalsIn (take 288 (answers M (heard 1_000_000) (calls (punctual M (heard 1_000_000) 0 288)))) ≡ 0
+  unfolding finalsIn punctual runs answers made outputStep turnOf wishOf wishBy granted grantOf queryGrant noQueries noAttempts noServices noRetries noAlts triesOf asksOf hintsOf some? starts latestOf firstPlace answerTimes oldestOf nextRetry retryEndpoints firstOf gate attemptLeft mayStart moveOnWithoutTimeout moveOnWithTimeout someAddress nextQuery wantedBy originWanted missing targetsWanted altsWanted firstWanted httpsPlace isPrefixed putQuery inputStep judged answerVerdict askedOf askedFrom firstAnswer timerWish resolutionLeft elapsed
+  none-back = refl
+
+  clock-back : isOnClock M (heard 1_000_000) 0 288 ≡ true
+  unfolding isOnClock runs made outputStep turnOf wishOf wishBy granted grantOf queryGrant noQueries noAttempts noServices noRetries noAlts triesOf asksOf hintsOf some? starts latestOf firstPlace answerTimes oldestOf nextRetry retryEndpoints firstOf gate attemptLeft mayStart moveOnWithoutTimeout moveOnWithTimeout someAddress nextQuery wantedBy originWanted missing targetsWanted altsWanted firstWanted httpsPlace isPrefixed putQuery inputStep judged answerVerdict askedOf askedFrom firstAnswer timerWish resolutionLeft elapsed
+  clock-back = refl
+
+  pub never-back-needed : ClockBack M → ⊥
+  unfolding ClockBack
+  never-back-needed h =
+      let s = heard 1_000_000 in
+      let z = h (asksThenHears b 1_000_000) (punctual M s 0 288) (rises M s 0 288) (exact M s 0 288 (computed-on-clock M s 0 288 clock-back)) (omega (arith, many M s 0 288)) in
+      let y = none-back in
+      omega arith
+
+  none-early : finalsIn (take 288 (answers M (heard 0) (calls (replicate 288 0)))) ≡ 0
+  unfolding finalsIn runs answers made outputStep turnOf wishOf wishBy granted grantOf queryGrant noQueries noAttempts noServices noRetries noAlts triesOf asksOf hintsOf some? starts latestOf firstPlace answerTimes oldestOf nextRetry retryEndpoints firstOf gate attemptLeft mayStart moveOnWithoutTimeout moveOnWithTimeout someAddress nextQuery wantedBy originWanted missing targetsWanted altsWanted firstWanted httpsPlace isPrefixed putQuery inputStep judged answerVerdict askedOf askedFrom firstAnswer timerWish resolutionLeft elapsed
+  none-early = refl
+
+  risen : rising (asksThenHears b 0 ++ calls (replicate 288 0))
+  unfolding rising
+  risen = (from-zero _, (from-zero _, (from-zero _, same-time Fed 0 288)))
+
+  pub timers-needed : AnyTime M → ⊥
+  unfolding AnyTime
+  timers-needed h =
+      let z = h (asksThenHears b 0) (replicate 288 0) risen (omega (arith, length-replicate {A = ℕ} 288 0)) in
+      let y = none-early in
+      omega arith

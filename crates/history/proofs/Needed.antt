@@ -1,0 +1,65 @@
+-- 95 and 288 are the least numbers that the facts give, and with a timer of 0 there would be none.
+use Prim.Native.Nat.{ℕ, zero, suc, _+_, _≤_, _<_, _^_}
+use mathlib.Core.Path.{_≡_, refl}
+use mathlib.Core.Bool.{Bool, true, false, cond}
+use mathlib.Core.List.{List, [], _∷_, _++_}
+use native.Mathlib.Omega.{arith}
+use lib.Dec.{eqb}
+use lib.ListN.{length, take}
+use Rattle.machine.specs.declared.grant.Output.the-variants as output
+use Rattle.history.specs.History.{Automaton, Event, calls, runs, answers, asksIn, finalsIn, from, rising, after, punctual, onClock}
+use Rattle.history.specs.Claims.{By288, HostThere, Premise}
+use Rattle.history.specs.Slowest.{slowest, does, due, zeroTimer, zeroSays}
+use Rattle.history.specs.Needed.{AtMost94, By287}
+use Rattle.history.proofs.Hosts.{on-clock, host-there}
+use Rattle.history.proofs.Slowest.{short}
+
+-- Numbers
+
+-- the punctual host, from any history
+host-there-at : (M : Automaton) (before : List (Event (M .Input))) (t n : ℕ) → rising (before ++ calls (t ∷ [])) → onClock M (runs M (M .made) before) t n
+    → Premise M before (punctual M (runs M (M .made) before) t n) × (length (punctual M (runs M (M .made) before) t n) ≡ n)
+unfolding HostThere
+host-there-at M = host-there M
+
+asks-95 : asksIn (answers slowest (slowest .made) (calls (punctual slowest (slowest .made) 0 287))) ≡ 95
+unfolding asksIn answers punctual does due
+asks-95 = refl
+
+pub not-94 : AtMost94 slowest → ⊥
+unfolding AtMost94
+not-94 h = let z = h (calls (punctual slowest (slowest .made) 0 287)) in let y = asks-95 in omega arith
+
+none-of-287 : finalsIn (take 287 (answers slowest (slowest .made) (calls (punctual slowest (slowest .made) 0 287)))) ≡ 0
+unfolding finalsIn answers punctual does due
+none-of-287 = refl
+
+pub not-287 : By287 slowest → ⊥
+unfolding By287 runs rising from
+not-287 h =
+    let p = host-there-at slowest [] 0 287 (tt, tt) (on-clock slowest 2 short (slowest .made) 0 287 (omega arith)) in
+    let z = h [] (punctual slowest (slowest .made) 0 287) (p .0) (omega (arith, p .1)) in
+    let y = none-of-287 in
+    omega arith
+
+-- A timer of 0
+
+zero-short : (s : zeroTimer .State) (t d : ℕ) → zeroSays s t ≡ output.Timer d → d ≤ 0
+unfolding zeroSays
+zero-short s t d e = by (eqb t 0) e
+  where
+    by : (b : Bool) → cond b (output.Timer 0) output.Waiting ≡ output.Timer d → d ≤ 0
+    by true e = let z : 0 ≡ d = cc in omega arith
+    by false e = absurd (let z : _≡_ {A = ℕ} 0 1 = cc in omega arith)
+
+none-at-zero : finalsIn (take 288 (answers zeroTimer tt (calls (punctual zeroTimer tt 0 288)))) ≡ 0
+unfolding finalsIn answers punctual zeroSays
+none-at-zero = refl
+
+pub zero-breaks : By288 zeroTimer → ⊥
+unfolding By288 runs rising from
+zero-breaks h =
+    let p = host-there-at zeroTimer [] 0 288 (tt, tt) (on-clock zeroTimer 0 zero-short tt 0 288 (omega arith)) in
+    let z = h [] (punctual zeroTimer tt 0 288) (p .0) (omega (arith, p .1)) in
+    let y = none-at-zero in
+    omega arith

@@ -1,0 +1,26 @@
+-- Demand 3 of Braidhatch, in its order: of every configuration, whatever the inputs bring.
+use Rattle.records.specs.declared.names.Names.{Names}
+use Rattle.records.specs.declared.rules.Rules.{Rules}
+use Rattle.records.specs.declared.rules.Timing.{Timing}
+use Rattle.records.specs.declared.rules.Alts.{Alts}
+use Rattle.history.specs.Claims.{AtMost95, By288, HostThere, WaitsForSomething, TriesAll, By288Heeded, AllBut287, TwoForEach, Fuel, AttemptsNew}
+use Rattle.history.specs.Race.{race, unanswered, Condition, WithHints, AllTried, wasAttempted}
+
+pub record Demand3 (r : Rules) (t : Timing) (l : Alts) (n : Names) : Type 0 where
+  -- "An end": 95 = 16 records + 16 refreshes + 32 attempts + 31 cancels. No history reaches it: 94 is the most that was seen, 16 + 15 + 32 + 31.
+  pub asks : AtMost95 (race r t l n)
+  -- the 288th call; and the premise can be met
+  pub ends : By288 (race r t l n)
+  pub host : HostThere (race r t l n)
+  -- Waiting, and the last sentence
+  pub waits : WaitsForSomething (race r t l n) unanswered
+  pub tries : TriesAll (race r t l n) Condition AllTried
+
+-- More than the demand: each is stronger than one of the above, or new
+pub record Beyond (r : Rules) (t : Timing) (l : Alts) (n : Names) : Type 0 where
+  pub heeded : By288Heeded (race r t l n)
+  pub all-but : AllBut287 (race r t l n)
+  pub two-each : TwoForEach (race r t l n)
+  pub fuel : Fuel (race r t l n)
+  pub hinted : TriesAll (race r t l n) WithHints AllTried
+  pub fresh : AttemptsNew (race r t l n) wasAttempted
