@@ -1,18 +1,17 @@
 -- Demand 3 once over any machine that has the facts: 95 by counting what was asked; 288 by a measure that every answer but a final one
 -- lowers; the other claims call by call.
-use Prim.Native.Nat.{ℕ, zero, suc, _+_, _*_, _-_, _≤_, _<_}
-use mathlib.Core.Path.{_≡_, refl, sym, ap, _∙_}
-use mathlib.Core.Bool.{Bool, true, false, false≢true}
-use mathlib.Core.Logic.{_⊎_, inl, inr, ⊎-elim}
+use Prim.Native.Nat.{ℕ, _+_, _*_, _-_, _≤_, _<_}
+use mathlib.Core.Path.{_≡_, refl, ap}
+use mathlib.Core.Bool.{Bool, true, false}
+use mathlib.Core.Logic.{_⊎_, ⊎-elim}
 use mathlib.Core.List.{List, [], _∷_, _++_}
 use native.Mathlib.Omega.{arith}
-use lib.ListN.{length, take}
-use Rattle.records.specs.declared.endpoints.Endpoint.{Endpoint}
+use lib.ListN.{length}
 use Rattle.machine.specs.declared.grant.Output.{Output}
 use Rattle.machine.specs.declared.grant.Output.the-variants as output
-use Rattle.history.specs.History.{Automaton, isAsk, isFinal, Event, input, call, one, runs, answers, asksIn, finalsIn, inputsIn, calls, callsOf, unheeded, from, rising, keeps, callsAt, Exactly, NoEarlier, Awaits, atCalls}
+use Rattle.history.specs.History.{Automaton, isAsk, isFinal, Event, input, call, one, runs, answers, asksIn, finalsIn, inputsIn, calls, callsOf, from, rising, keeps, callsAt, Exactly, NoEarlier, Awaits, atCalls}
 use Rattle.history.specs.Facts.{View, Facts}
-use Rattle.history.specs.Claims.{Premise, AtMost95, By288, By288Heeded, AllBut287, TwoForEach, Fuel, WaitsForSomething, isRest, TriesAll, AttemptsNew}
+use Rattle.history.specs.Claims.{AtMost95, By288, By288Heeded, AllBut287, TwoForEach, Fuel, WaitsForSomething, isRest, TriesAll, AttemptsNew}
 use Rattle.history.proofs.Marks.{ahead, ahead-le, ahead-one, ahead-none, ahead-later}
 use Rattle.history.proofs.Counting.{one-le, answers-calls, inputs-calls, take-finals, unheeded-answers, rising-after}
 

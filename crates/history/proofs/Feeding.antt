@@ -1,8 +1,8 @@
 -- An input over the whole machine: refused it leaves both tables; accepted it holds an answer or ends an attempt in progress.
-use Prim.Native.Nat.{ℕ, _≤_, _<_, min}
+use Prim.Native.Nat.{ℕ, _≤_, _<_}
 use mathlib.Core.Path.{_≡_, refl, sym, ap, _∙_}
 use mathlib.Core.Bool.{Bool, true, false, cond}
-use mathlib.Core.Logic.{_⊎_, inl, inr}
+use mathlib.Core.Logic.{_⊎_, inr}
 use mathlib.Core.List.{List}
 use native.Mathlib.Omega.{arith}
 use lib.ListN.{length, getD, set}
@@ -26,8 +26,8 @@ use Rattle.state.specs.declared.changes.InputChange.the-variants as change
 use Rattle.state.specs.declared.changes.Round.{Round}
 use Rattle.state.specs.declared.changes.Round.the-variants.{First, Second}
 use Rattle.starting.specs.Surveys.{isAnswered}
-use Rattle.input.specs.Input.{isFailed, storedAt, stored, withAnswer, recordAt, attemptAt, verdictOf}
-use Rattle.input.specs.Verdicts.{Waits, refreshAfter, Answered, endOf, again, Ends, Ended, recordsIn, attemptsIn}
+use Rattle.input.specs.Input.{isFailed, storedAt, withAnswer, recordAt, attemptAt, verdictOf}
+use Rattle.input.specs.Verdicts.{Waits, refreshAfter, Answered, endOf, again, Ends, Ended}
 use Rattle.input.specs.declared.Input.{Input}
 use Rattle.input.specs.declared.Input.the-variants as input
 use Rattle.input.specs.declared.Verdict.{Verdict}
@@ -37,7 +37,7 @@ use Rattle.input.specs.declared.Outcome.the-variants as outcome
 use Rattle.input.proofs.Laws.{held-after, failed-after, ended-after}
 use Rattle.machine.specs.declared.calls.Beside.{Beside}
 use Rattle.machine.specs.After.{queriesFed, attemptsFed, servicesFed, putQuery, putAttempt}
-use Rattle.machine.specs.Steps.{changeOf, judged, fed}
+use Rattle.machine.specs.Steps.{changeOf, judged}
 use Rattle.history.specs.History.{one}
 use Rattle.history.specs.Edition.{cameAt}
 use Rattle.history.proofs.Tables.{count, count-set, count-get, all-get}

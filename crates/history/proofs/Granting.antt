@@ -1,9 +1,8 @@
 -- A call over any edition: what it asks changes the tables in one of the four ways, and any other answer leaves the machine.
-use Prim.Native.Nat.{ℕ, _+_, _≤_, _<_}
+use Prim.Native.Nat.{ℕ, _<_}
 use mathlib.Core.Path.{_≡_, refl, sym, ap, _∙_}
 use mathlib.Core.Bool.{Bool, true, false, false≢true, cond}
 use mathlib.Core.Logic.{_⊎_, inl, inr}
-use mathlib.Core.List.{List}
 use native.Mathlib.Omega.{arith}
 use lib.Dec.{leb}
 use lib.ListN.{length, getD}
@@ -12,21 +11,17 @@ use borrow.Author.Tests.{leb-false}
 use Rattle.pacing.specs.Ids.{nextId}
 use Rattle.records.specs.Lists.{some?}
 use Rattle.records.specs.Queries.{noQuery}
-use Rattle.records.specs.declared.queries.Answer.{Answer}
-use Rattle.records.specs.declared.queries.Answer.the-variants as answer
 use Rattle.records.specs.declared.queries.Kind.{Kind}
 use Rattle.records.specs.declared.queries.Refresh.{Refresh}
 use Rattle.records.specs.declared.queries.Refresh.the-variants.{Idle, InFlight, Done}
 use Rattle.records.specs.declared.queries.Query.{Query}
-use Rattle.records.specs.declared.queries.Queries.{Queries}
 use Rattle.records.specs.declared.endpoints.Endpoint.{Endpoint}
 use Rattle.state.specs.State.{asked, tried, noAttempt, newAttempt, withState, isOpen}
 use Rattle.state.specs.declared.Machine.{Machine}
 use Rattle.state.specs.declared.attempts.State.{State}
 use Rattle.state.specs.declared.attempts.State.the-variants as state
 use Rattle.state.specs.declared.attempts.Attempt.{Attempt}
-use Rattle.state.specs.declared.attempts.Attempts.{Attempts}
-use Rattle.starting.specs.Surveys.{isOpenAttempt, hasWonAttempt, isAnswered, isDue, isDueQuery}
+use Rattle.starting.specs.Surveys.{isOpenAttempt, hasWonAttempt, isDue, isDueQuery}
 use Rattle.machine.specs.declared.wish.Wish.{Wish}
 use Rattle.machine.specs.declared.wish.Wish.the-variants as wish
 use Rattle.machine.specs.declared.grant.Output.{Output}
@@ -37,9 +32,9 @@ use Rattle.machine.specs.Steps.{called}
 use Rattle.history.specs.History.{isAsk}
 use Rattle.history.specs.Claims.{isRest}
 use Rattle.history.specs.Race.{unanswered, Condition, AllTried, wasAttempted}
-use Rattle.history.specs.Edition.{Delays, Left, Rests, All}
+use Rattle.history.specs.Edition.{Delays, Left, Rests}
 use Rattle.history.proofs.Tables.{some-counts, all-get}
-use Rattle.history.proofs.Changing.{Asks, new-query, refresh, new-attempt, cancels, Fits, Tidy, begun, isBegun}
+use Rattle.history.proofs.Changing.{Asks, new-query, refresh, new-attempt, cancels, Fits, Tidy, isBegun}
 use Rattle.history.proofs.Putting.{query-old, query-new, attempt-old, attempt-new}
 use Rattle.history.proofs.Rooms.{Room}
 

@@ -11,7 +11,7 @@ use borrow.Author.Tests.{ltb-true}
 use Rattle.machine.specs.declared.grant.Output.{Output}
 use Rattle.machine.specs.declared.grant.Output.the-variants as output
 use Rattle.history.specs.History.{Automaton, Event, reading, calls, runs, from, rising, keeps, callsAt, Exactly, after, punctual, onClock}
-use Rattle.history.specs.Claims.{Premise, HostThere}
+use Rattle.history.specs.Claims.{HostThere}
 
 pub many : (M : Automaton) (s : M .State) (t n : ℕ) → length (punctual M s t n) ≡ n
 unfolding punctual

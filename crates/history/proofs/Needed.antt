@@ -1,5 +1,5 @@
 -- 95 and 288 are the least numbers that the facts give, and with a timer of 0 there would be none.
-use Prim.Native.Nat.{ℕ, zero, suc, _+_, _≤_, _<_, _^_}
+use Prim.Native.Nat.{ℕ, _≤_}
 use mathlib.Core.Path.{_≡_, refl}
 use mathlib.Core.Bool.{Bool, true, false, cond}
 use mathlib.Core.List.{List, [], _∷_, _++_}
@@ -7,7 +7,7 @@ use native.Mathlib.Omega.{arith}
 use lib.Dec.{eqb}
 use lib.ListN.{length, take}
 use Rattle.machine.specs.declared.grant.Output.the-variants as output
-use Rattle.history.specs.History.{Automaton, Event, calls, runs, answers, asksIn, finalsIn, from, rising, after, punctual, onClock}
+use Rattle.history.specs.History.{Automaton, Event, calls, runs, answers, asksIn, finalsIn, from, rising, punctual, onClock}
 use Rattle.history.specs.Claims.{By288, HostThere, Premise}
 use Rattle.history.specs.Slowest.{slowest, does, due, zeroTimer, zeroSays}
 use Rattle.history.specs.Needed.{AtMost94, By287}

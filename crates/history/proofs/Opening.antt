@@ -1,5 +1,5 @@
 -- When attempts may start once nothing else is to be done: no query is wanted and nothing is left of the resolution delay.
-use Prim.Native.Nat.{ℕ, _-_, _<_}
+use Prim.Native.Nat.{ℕ}
 use mathlib.Core.Path.{_≡_, refl, sym, ap, _∙_}
 use mathlib.Core.Bool.{Bool, true, false, false≢true, not, cond, _&&_, _||_}
 use mathlib.Core.List.{List, [], _∷_}
@@ -7,7 +7,7 @@ use native.Mathlib.Omega.{arith}
 use lib.Dec.{ltb}
 use Rattle.records.specs.Lists.{some?}
 use Rattle.records.specs.Queries.{answered}
-use Rattle.records.specs.Rules.{prefersSix, allowsSix, allowsFour, withHttps, isNamed}
+use Rattle.records.specs.Rules.{prefersSix, withHttps, isNamed}
 use Rattle.records.specs.declared.rules.Rules.{Rules}
 use Rattle.records.specs.declared.rules.Timing.{Timing}
 use Rattle.records.specs.declared.rules.Mode.{Mode}
@@ -20,9 +20,9 @@ use Rattle.records.specs.declared.queries.Answer.{Answer}
 use Rattle.records.specs.declared.queries.Answer.the-variants as answer
 use Rattle.records.specs.declared.queries.Query.{Query}
 use Rattle.state.specs.State.{httpsPlace}
-use Rattle.starting.specs.Surveys.{isKind, isAnswered, isAnsweredKind, hasAddress, came, answerTimes, soonerOf, oldestOf}
-use Rattle.starting.specs.Starting.{leftOf, resolutionLeft, resolutionMet, someAddress, preferredSettled, moveOnWithoutTimeout, moveOnWithTimeout, unresolved, mayStart}
-use Rattle.starting.specs.Wanted.{isMissing, missing, originAddresses, originWanted}
+use Rattle.starting.specs.Surveys.{isKind, isAnswered, isAnsweredKind, came, answerTimes, soonerOf, oldestOf}
+use Rattle.starting.specs.Starting.{resolutionLeft, resolutionMet, someAddress, preferredSettled, moveOnWithoutTimeout, moveOnWithTimeout, unresolved, mayStart}
+use Rattle.starting.specs.Wanted.{missing, originAddresses, originWanted}
 use Rattle.starting.specs.declared.surveys.Moment.{Moment}
 use Rattle.starting.specs.declared.surveys.Moment.the-variants as moment
 use Rattle.starting.specs.declared.surveys.Kinds.{Kinds}

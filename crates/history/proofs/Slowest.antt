@@ -6,14 +6,13 @@ use mathlib.Core.Logic.{_⊎_, inl, inr}
 use native.Mathlib.Omega.{arith}
 use lib.Dec.{ltb}
 use borrow.Author.Tests.{ltb-true, ltb-false, le-ltb}
-use Rattle.records.specs.declared.endpoints.Endpoint.{Endpoint}
 use Rattle.machine.specs.declared.grant.Output.{Output}
 use Rattle.machine.specs.declared.grant.Output.the-variants as output
 use Rattle.history.specs.History.{isAsk}
 use Rattle.history.specs.Claims.{isRest}
 use Rattle.history.specs.Facts.{Facts}
 use Rattle.history.specs.Edition.{Left}
-use Rattle.history.specs.Slowest.{Slow, Deed, query, refresh, attempt, cancel, wait, rest, due, does, numbered, says, goes, hears, slowest, slowView}
+use Rattle.history.specs.Slowest.{Slow, Deed, query, refresh, attempt, cancel, wait, rest, due, does, says, goes, slowest, slowView}
 
 record Good (s : Slow) : Type 0 where
   queries : s .queries ≤ 16

@@ -1,8 +1,8 @@
 -- What the rules call for rests on what an edition must show.
-use Prim.Native.Nat.{ℕ, zero, suc, _+_, _-_, _≤_, _<_, min, max}
-use mathlib.Core.Path.{_≡_, refl, sym, ap, _∙_}
+use Prim.Native.Nat.{ℕ, suc, _+_, _-_, _≤_, _<_}
+use mathlib.Core.Path.{_≡_, refl, ap, _∙_}
 use mathlib.Core.Bool.{Bool, true, false, false≢true, not, cond, _&&_, _||_}
-use mathlib.Core.Logic.{_⊎_, inl, inr}
+use mathlib.Core.Logic.{inl, inr}
 use mathlib.Core.List.{List, [], _∷_, List·Memᴰ}
 use mathlib.Core.Option.{Option, none, some}
 use native.Mathlib.Omega.{arith}
@@ -12,7 +12,6 @@ use borrow.Author.Tests.{ltb-true, not-true, not-false}
 use Rattle.records.specs.Lists.{some?, firstOf}
 use Rattle.records.specs.Names.{sameAt}
 use Rattle.records.specs.Queries.{noQuery, answered}
-use Rattle.records.specs.Rules.{isNamed}
 use Rattle.records.specs.Endpoints.{sameEndpoint}
 use Rattle.records.specs.declared.rules.Mode.{Mode}
 use Rattle.records.specs.declared.rules.Mode.the-variants as mode
@@ -23,13 +22,13 @@ use Rattle.records.specs.declared.queries.Answer.the-variants as answer
 use Rattle.records.specs.declared.queries.Query.{Query}
 use Rattle.records.specs.declared.endpoints.Endpoint.{Endpoint}
 use Rattle.records.proofs.First.{only-if-none, first-member}
-use Rattle.state.specs.State.{asked, tried, noAttempt, isOpen, retriesOf}
+use Rattle.state.specs.State.{asked, tried, noAttempt, isOpen}
 use Rattle.state.specs.declared.Machine.{Machine}
 use Rattle.state.specs.declared.attempts.Attempt.{Attempt}
-use Rattle.starting.specs.Surveys.{firstPlace, laterOf, soonerOf, latestOf, oldestOf, starts, isOpenAttempt, hasWonAttempt, triesOf, isKind, isAnswered, isAnsweredKind, hasAddress, isFlying, came, answerTimes, isDueQuery, asksOf, hintsOf}
+use Rattle.starting.specs.Surveys.{firstPlace, laterOf, soonerOf, latestOf, oldestOf, starts, isOpenAttempt, triesOf, isKind, isAnswered, hasAddress, came, answerTimes, isDueQuery, asksOf, hintsOf}
 use Rattle.starting.specs.Starting.{elapsed, leftOf, attemptDelay, attemptLeft, resolutionLeft, someAddress, mayStart}
-use Rattle.starting.specs.Wanted.{orWanted, originWanted, wantedIn, wantedBy, nextQuery}
-use Rattle.starting.specs.Next.{attempted, nextOf, retryEndpoints, nextRetry, nextEndpoint}
+use Rattle.starting.specs.Wanted.{wantedIn, wantedBy, nextQuery}
+use Rattle.starting.specs.Next.{attempted, nextOf, nextRetry, nextEndpoint}
 use Rattle.starting.specs.declared.surveys.Moment.{Moment}
 use Rattle.starting.specs.declared.surveys.Moment.the-variants as moment
 use Rattle.starting.specs.declared.surveys.Place.{Place}
@@ -40,12 +39,12 @@ use Rattle.starting.specs.declared.wanted.Wanted.{Wanted}
 use Rattle.starting.specs.declared.wanted.Wanted.the-variants as wanted
 use Rattle.machine.specs.declared.wish.Wish.{Wish}
 use Rattle.machine.specs.declared.wish.Wish.the-variants as wish
-use Rattle.machine.specs.Output.{endWish, reasonOf, lastWish, timerWish, refreshWish, restWish, queryWish, attemptWish, retryWish, gate, wishBy, wishOf, originIn}
+use Rattle.machine.specs.Output.{endWish, reasonOf, lastWish, timerWish, refreshWish, queryWish, attemptWish, retryWish, gate, wishBy, wishOf, originIn}
 use Rattle.history.specs.Race.{unanswered, listed, wasAttempted, AllTried, holdsAddress, Condition, address-origin, mode-name, https-answered, address-held, WithHints, as-before, some-address, edition}
 use Rattle.history.specs.Edition.{Delays, Left, Rests, cameAt, All, Edition}
 use Rattle.history.proofs.Tables.{counts-some}
 use Rattle.history.proofs.Feeding.{Served}
-use Rattle.history.proofs.Opening.{Settled, opens, opens-address, opens-name, opens-https, some-imp, kind-answered, answer-came}
+use Rattle.history.proofs.Opening.{opens, opens-address, opens-name, opens-https, some-imp, kind-answered, answer-came}
 
 -- Searches
 
