@@ -144,7 +144,8 @@ module _ (M : Automaton) (S : View M) (R : Facts M S) where
   measure-later s t u h = let a = ahead-later t u (R .attemptEnd s) h in let r = ahead-later t u (R .resolutionEnd s) h in omega arith
 
   -- a timer has its own end ahead, and not any more from its end on
-  measure-timer : (s : M .State) (t d u : ℕ) → 0 < d → t + d ≤ u → (t + d ≡ R .attemptEnd s) ⊎ (t + d ≡ R .resolutionEnd s) → measure s u + 1 ≤ measure s t
+  measure-timer : (s : M .State) (t d u : ℕ) → 0 < d → t + d ≤ u → (t + d ≡ R .attemptEnd s) ⊎ (t + d ≡ R .resolutionEnd s)
+      → measure s u + 1 ≤ measure s t
   unfolding measure
   measure-timer s t d u p l e =
       ⊎-elim
@@ -237,27 +238,6 @@ module _ (M : Automaton) (S : View M) (R : Facts M S) where
       let z = by-answer s u (M .says s u) h g q (r .0) refl (k .0) ih in
       omega arith
 
-  rest-all : (s : M .State) → rest s ≤ 285
-  unfolding rest
-  rest-all s = omega arith
-
-  -- inputs going on, from the making
-  pub two-for-each : TwoForEach M
-  unfolding TwoForEach Bound
-  two-for-each h r k =
-      let b = bound (M .made) 0 h (R .good-made) (R .past-made) (from-zero h) r k in
-      let z = top-high (M .made) h in
-      let a = rest-all (M .made) in
-      omega arith
-
-  pub fuel : Fuel M
-  unfolding Fuel TwoForEach
-  fuel h r k =
-      let b = two-for-each h r (weaker Awaits NoEarlier awaits-no-earlier M (M .made) h k) in
-      let f = finals-few M (M .made) h k in
-      let o = begins-le h in
-      omega arith
-
   -- after the events before, some reading has come that nothing later precedes, and that no moment held exceeds
   record Since (s : M .State) (h : List (Event (M .Input))) : Type 0 where
     at : ℕ
@@ -280,15 +260,30 @@ module _ (M : Automaton) (S : View M) (R : Facts M S) where
       let m = R .most (runs M (M .made) before) (good-runs (M .made) before (R .good-made)) in
       omega arith
 
-  pub all-but-287 : AllBut287 M
-  unfolding AllBut287 Bound
-  all-but-287 before us r k =
+  pub two-for-each : TwoForEach M
+  unfolding TwoForEach Bound
+  two-for-each before h r k =
       let s = runs M (M .made) before in
-      let w = since (M .made) 0 before (calls us) (R .good-made) (R .past-made) (from-zero (before ++ calls us)) r in
-      let b = bound s (w .at) (calls us) (good-runs (M .made) before (R .good-made)) (w .past) (w .later) (w .goes-on) k in
-      let z = top-high s (calls us) in
+      let w = since (M .made) 0 before h (R .good-made) (R .past-made) (from-zero (before ++ h)) r in
+      let b = bound s (w .at) h (good-runs (M .made) before (R .good-made)) (w .past) (w .later) (w .goes-on) k in
+      let z = top-high s h in
       let a = rest-asked before in
-      let n = answers-calls M s us in
+      omega arith
+
+  pub fuel : Fuel M
+  unfolding Fuel TwoForEach
+  fuel before h r k =
+      let s = runs M (M .made) before in
+      let b = two-for-each before h r (weaker Awaits NoEarlier awaits-no-earlier M s h k) in
+      let f = finals-few M s h k in
+      let o = begins-le h in
+      omega arith
+
+  pub all-but-287 : AllBut287 M
+  unfolding AllBut287 TwoForEach
+  all-but-287 before us r k =
+      let b = two-for-each before (calls us) r k in
+      let n = answers-calls M (runs M (M .made) before) us in
       let i = inputs-calls (M .Input) us in
       omega arith
 

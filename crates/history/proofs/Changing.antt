@@ -41,7 +41,8 @@ Tidy q = isAnswered q ≡ false → (q .stale ≡ false) × (begun q ≡ false)
 
 -- an ask at t: one query record more, a refresh, one attempt more, or a cancel
 pub data Asks (t : ℕ) (qs : List Query) (ts : List Attempt) (qs′ : List Query) (ts′ : List Attempt) : Type 0 where
-  new-query : (q : Query) → length qs < 16 → begun q ≡ false → cameAt (q .answer) ≤ t → Tidy q → qs′ ≡ qs ++ (q ∷ []) → ts′ ≡ ts → Asks t qs ts qs′ ts′
+  new-query : (q : Query) → length qs < 16 → begun q ≡ false → cameAt (q .answer) ≤ t → Tidy q → qs′ ≡ qs ++ (q ∷ []) → ts′ ≡ ts
+      → Asks t qs ts qs′ ts′
   refresh : (i : ℕ) (q d : Query) → i < length qs → begun (getD qs i d) ≡ false → begun q ≡ true → q .answer ≡ getD qs i d .answer → Tidy q
       → qs′ ≡ set qs i q → ts′ ≡ ts → Asks t qs ts qs′ ts′
   new-attempt : (a : Attempt) → length ts < 32 → a .state ≡ state.InProgress → a .started ≤ t → qs′ ≡ qs → ts′ ≡ ts ++ (a ∷ []) → Asks t qs ts qs′ ts′

@@ -130,7 +130,8 @@ module _ (wish : Machine → ℕ → Wish) (E : Edition wish) (m : Machine) (now
       by (inl k) = let z = left-ends _ _ now d (E .started m now (p .started)) k in (z .0, inl (z .1))
       by (inr k) = let z = left-ends _ _ now d (E .answered m now (p .came)) k in (z .0, inr (z .1))
 
-pub facts : (wish : Machine → ℕ → Wish) → Edition wish → (r : Rules) (t : Timing) (l : Alts) (n : Names) → Facts (raceBy wish r t l n) (view wish r t l n)
+pub facts : (wish : Machine → ℕ → Wish) → Edition wish → (r : Rules) (t : Timing) (l : Alts) (n : Names)
+    → Facts (raceBy wish r t l n) (view wish r t l n)
 facts wish E r t l n =
     record {
       Good = Own;
@@ -156,6 +157,7 @@ facts wish E r t l n =
     }
 
 -- what stands over any history stands where the facts are used
-pub good-own : (wish : Machine → ℕ → Wish) (E : Edition wish) (r : Rules) (t : Timing) (l : Alts) (n : Names) (m : Machine) → facts wish E r t l n .Good m → Own m
+pub good-own : (wish : Machine → ℕ → Wish) (E : Edition wish) (r : Rules) (t : Timing) (l : Alts) (n : Names) (m : Machine)
+    → facts wish E r t l n .Good m → Own m
 unfolding facts
 good-own wish E r t l n m o = o

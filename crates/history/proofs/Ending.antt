@@ -47,7 +47,8 @@ module _ (r : Rules) (t : Timing) (l : Alts) (n : Names) where
       }
 
   -- where Waiting or Failed is said nothing else was to do
-  rest-idle : (m : Machine) (now : ℕ) (w : Wish) → isRest (granted (m .queries) (m .attempts) (m .ids) w now .output) ≡ true → Why m now w → Idle m now
+  rest-idle : (m : Machine) (now : ℕ) (w : Wish) → isRest (granted (m .queries) (m .attempts) (m .ids) w now .output) ≡ true → Why m now w
+      → Idle m now
   unfolding granted grantOf queryGrant attemptGrant
   rest-idle m now (wish.Cancel p) e y = absurd (false≢true e)
   rest-idle m now wish.Succeeded e y = absurd (false≢true e)

@@ -55,7 +55,8 @@ stale-tidy : (q : Query) (id : ℕ) → Tidy q → q .stale ≡ true → Tidy (r
 stale-tidy q id k e u = absurd (false≢true (sym (k u .0) ∙ e))
 
 -- with room, or without
-if-room : (P : Turn → Type 0) (b : Bool) (x y : Turn) → isAsk (x .output) ≡ false → (b ≡ false → P y) → isAsk (cond b x y .output) ≡ true → P (cond b x y)
+if-room : (P : Turn → Type 0) (b : Bool) (x y : Turn) → isAsk (x .output) ≡ false → (b ≡ false → P y) → isAsk (cond b x y .output) ≡ true
+    → P (cond b x y)
 if-room P true x y n h e = absurd (false≢true (sym n ∙ e))
 if-room P false x y n h e = h refl
 
@@ -82,7 +83,8 @@ module _ (m : Machine) (now : ℕ) where
     many-tried : length (tried (m .attempts)) ≡ m .attempts .count
     many-tried = length-take-le (m .attempts .count) (m .attempts .list) (omega (arith, o .rooms, o .tried-in))
 
-    asks-query : (id : ℕ) (k : Kind) (p : ℕ) → isAsk (queryGrant (m .queries .count) id k p .output) ≡ true → AsksBy (queryGrant (m .queries .count) id k p)
+    asks-query : (id : ℕ) (k : Kind) (p : ℕ) → isAsk (queryGrant (m .queries .count) id k p .output) ≡ true
+        → AsksBy (queryGrant (m .queries .count) id k p)
     unfolding queryGrant
     asks-query id k p e =
         if-room AsksBy (leb 16 (m .queries .count)) _ _ refl
@@ -91,7 +93,8 @@ module _ (m : Machine) (now : ℕ) where
         new-query (newQuery id k p) (omega (arith, many-asked)) refl (omega arith) (λ u. (refl, refl)) (query-new (m .queries) (newQuery id k p) l (o .records)) refl)
         e
 
-    asks-attempt : (id : ℕ) (retry : Bool) (x : Endpoint) → isAsk (attemptGrant (m .attempts .count) id retry x now .output) ≡ true → AsksBy (attemptGrant (m .attempts .count) id retry x now)
+    asks-attempt : (id : ℕ) (retry : Bool) (x : Endpoint) → isAsk (attemptGrant (m .attempts .count) id retry x now .output) ≡ true
+        → AsksBy (attemptGrant (m .attempts .count) id retry x now)
     unfolding attemptGrant
     asks-attempt id retry x e =
         if-room AsksBy (leb 32 (m .attempts .count)) _ _ refl
@@ -100,7 +103,8 @@ module _ (m : Machine) (now : ℕ) where
         new-attempt (newAttempt id x now retry) (omega (arith, many-tried)) refl (omega arith) refl (attempt-new (m .attempts) (newAttempt id x now retry) l (o .rooms)))
         e
 
-    asks-cancel : (p : ℕ) → p < length (tried (m .attempts)) → isOpenAttempt (getD (tried (m .attempts)) p noAttempt) ≡ true → some? hasWonAttempt (tried (m .attempts)) ≡ true
+    asks-cancel : (p : ℕ) → p < length (tried (m .attempts)) → isOpenAttempt (getD (tried (m .attempts)) p noAttempt) ≡ true
+        → some? hasWonAttempt (tried (m .attempts)) ≡ true
         → AsksBy (cancelGrant (getD (m .attempts .list) p noAttempt) p)
     asks-cancel p l g h =
         let k : p < m .attempts .count = omega (arith, many-tried) in
@@ -108,7 +112,8 @@ module _ (m : Machine) (now : ℕ) where
         (ap (λ x. x .started) (sym (getD-take (m .attempts .count) (m .attempts .list) p noAttempt k))) refl
         (attempt-old (m .attempts) p (withState (getD (m .attempts .list) p noAttempt) state.Cancelled) k (o .tried-in))
 
-    asks-refresh : (id p : ℕ) → p < length (asked (m .queries)) → isDueQuery (getD (asked (m .queries)) p noQuery) ≡ true → AsksBy (refreshGrant (getD (m .queries .list) p noQuery) id p)
+    asks-refresh : (id p : ℕ) → p < length (asked (m .queries)) → isDueQuery (getD (asked (m .queries)) p noQuery) ≡ true
+        → AsksBy (refreshGrant (getD (m .queries .list) p noQuery) id p)
     asks-refresh id p l g =
         let k : p < m .queries .count = omega (arith, many-asked) in
         let e = getD-take (m .queries .count) (m .queries .list) p noQuery k in

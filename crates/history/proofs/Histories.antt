@@ -50,15 +50,27 @@ module _ (n : Names) (b : Beside) where
   -- the answers: two queries, and once the clock is back, the whole delay again and again
   pub ten-again : answers M (M .made) (asksThenHears b 1_000_000 ++ calls (0 ∷ 10 ∷ []))
       ≡ output.Query 0 Https true 0 ∷ output.Query 1 Aaaa true 0 ∷ output.Timer 10 ∷ output.Timer 10 ∷ []
-  unfolding answers made outputStep turnOf wishOf wishBy granted grantOf queryGrant noQueries noAttempts noServices noRetries noAlts triesOf asksOf hintsOf some? starts latestOf firstPlace answerTimes oldestOf nextRetry retryEndpoints firstOf gate attemptLeft mayStart moveOnWithoutTimeout moveOnWithTimeout someAddress nextQuery wantedBy originWanted missing targetsWanted altsWanted firstWanted httpsPlace isPrefixed putQuery inputStep judged answerVerdict askedOf askedFrom firstAnswer timerWish resolutionLeft elapsed
+  unfolding answers made outputStep turnOf wishOf wishBy granted grantOf queryGrant noQueries noAttempts noServices noRetries noAlts
+      triesOf asksOf hintsOf some? starts latestOf firstPlace answerTimes oldestOf nextRetry retryEndpoints firstOf gate attemptLeft
+      mayStart moveOnWithoutTimeout moveOnWithTimeout someAddress nextQuery wantedBy originWanted missing targetsWanted altsWanted
+      firstWanted httpsPlace isPrefixed putQuery inputStep judged answerVerdict askedOf askedFrom firstAnswer timerWish resolutionLeft
+      elapsed
   ten-again = refl
 
   none-back : finalsIn (take 288 (answers M (heard 1_000_000) (calls (punctual M (heard 1_000_000) 0 288)))) ≡ 0
-  unfolding finalsIn punctual runs answers made outputStep turnOf wishOf wishBy granted grantOf queryGrant noQueries noAttempts noServices noRetries noAlts triesOf asksOf hintsOf some? starts latestOf firstPlace answerTimes oldestOf nextRetry retryEndpoints firstOf gate attemptLeft mayStart moveOnWithoutTimeout moveOnWithTimeout someAddress nextQuery wantedBy originWanted missing targetsWanted altsWanted firstWanted httpsPlace isPrefixed putQuery inputStep judged answerVerdict askedOf askedFrom firstAnswer timerWish resolutionLeft elapsed
+  unfolding finalsIn punctual runs answers
+      made outputStep turnOf wishOf wishBy granted grantOf queryGrant noQueries noAttempts noServices noRetries noAlts triesOf asksOf
+      hintsOf some? starts latestOf firstPlace answerTimes oldestOf nextRetry retryEndpoints firstOf gate attemptLeft mayStart
+      moveOnWithoutTimeout moveOnWithTimeout someAddress nextQuery wantedBy originWanted missing targetsWanted altsWanted firstWanted
+      httpsPlace isPrefixed putQuery inputStep judged answerVerdict askedOf askedFrom firstAnswer timerWish resolutionLeft elapsed
   none-back = refl
 
   clock-back : isOnClock M (heard 1_000_000) 0 288 ≡ true
-  unfolding isOnClock runs made outputStep turnOf wishOf wishBy granted grantOf queryGrant noQueries noAttempts noServices noRetries noAlts triesOf asksOf hintsOf some? starts latestOf firstPlace answerTimes oldestOf nextRetry retryEndpoints firstOf gate attemptLeft mayStart moveOnWithoutTimeout moveOnWithTimeout someAddress nextQuery wantedBy originWanted missing targetsWanted altsWanted firstWanted httpsPlace isPrefixed putQuery inputStep judged answerVerdict askedOf askedFrom firstAnswer timerWish resolutionLeft elapsed
+  unfolding isOnClock runs made outputStep turnOf wishOf wishBy granted grantOf queryGrant noQueries noAttempts noServices noRetries noAlts
+      triesOf asksOf hintsOf some? starts latestOf firstPlace answerTimes oldestOf nextRetry retryEndpoints firstOf gate attemptLeft
+      mayStart moveOnWithoutTimeout moveOnWithTimeout someAddress nextQuery wantedBy originWanted missing targetsWanted altsWanted
+      firstWanted httpsPlace isPrefixed putQuery inputStep judged answerVerdict askedOf askedFrom firstAnswer timerWish resolutionLeft
+      elapsed
   clock-back = refl
 
   pub never-back-needed : ClockBack M → ⊥
@@ -70,7 +82,11 @@ module _ (n : Names) (b : Beside) where
       omega arith
 
   none-early : finalsIn (take 288 (answers M (heard 0) (calls (replicate 288 0)))) ≡ 0
-  unfolding finalsIn runs answers made outputStep turnOf wishOf wishBy granted grantOf queryGrant noQueries noAttempts noServices noRetries noAlts triesOf asksOf hintsOf some? starts latestOf firstPlace answerTimes oldestOf nextRetry retryEndpoints firstOf gate attemptLeft mayStart moveOnWithoutTimeout moveOnWithTimeout someAddress nextQuery wantedBy originWanted missing targetsWanted altsWanted firstWanted httpsPlace isPrefixed putQuery inputStep judged answerVerdict askedOf askedFrom firstAnswer timerWish resolutionLeft elapsed
+  unfolding finalsIn runs answers made outputStep turnOf wishOf wishBy granted grantOf queryGrant noQueries noAttempts noServices noRetries
+      noAlts triesOf asksOf hintsOf some? starts latestOf firstPlace answerTimes oldestOf nextRetry retryEndpoints firstOf gate attemptLeft
+      mayStart moveOnWithoutTimeout moveOnWithTimeout someAddress nextQuery wantedBy originWanted missing targetsWanted altsWanted
+      firstWanted httpsPlace isPrefixed putQuery inputStep judged answerVerdict askedOf askedFrom firstAnswer timerWish resolutionLeft
+      elapsed
   none-early = refl
 
   risen : rising (asksThenHears b 0 ++ calls (replicate 288 0))

@@ -49,7 +49,8 @@ use Rattle.history.proofs.Opening.{opens, opens-address, opens-name, op
 -- Searches
 
 -- the first place that passes is one
-place-at : {B : Type 0} (test : B → Bool) (i : ℕ) (l : List B) (d : B) (p : ℕ) → firstPlace test i l ≡ place.At p → (i ≤ p) × (p < i + length l) × (test (getD l (p - i) d) ≡ true)
+place-at : {B : Type 0} (test : B → Bool) (i : ℕ) (l : List B) (d : B) (p : ℕ) → firstPlace test i l ≡ place.At p
+    → (i ≤ p) × (p < i + length l) × (test (getD l (p - i) d) ≡ true)
 unfolding firstPlace
 place-at test i [] d p e = absurd (let z : _≡_ {A = ℕ} 0 1 = cc in omega arith)
 place-at test i (x ∷ l) d p e = by (test x) refl e (place-at test (i + 1) l d p)
@@ -66,7 +67,8 @@ unfolding starts some?
 open-some [] e = absurd (false≢true e)
 open-some (a ∷ l) e = by (isOpen (a .state)) e (open-some l)
   where
-    by : (b : Bool) → ltb 0 (length (cond b (a .started ∷ starts l) (starts l))) ≡ true → (ltb 0 (length (starts l)) ≡ true → some? isOpenAttempt l ≡ true)
+    by : (b : Bool) → ltb 0 (length (cond b (a .started ∷ starts l) (starts l))) ≡ true
+        → (ltb 0 (length (starts l)) ≡ true → some? isOpenAttempt l ≡ true)
         → cond b true (some? isOpenAttempt l) ≡ true
     by true e h = refl
     by false e h = h e
@@ -110,7 +112,8 @@ unfolding elapsed
 left-of delay moment.Never now e = absurd (let z = ltb-true 0 0 e in omega arith)
 left-of delay (moment.At t) now e = let z = ltb-true 0 (delay - (now - t)) e in (omega arith, refl)
 
-left-pending : (pending : Bool) (delay : ℕ) (m : Moment) (now : ℕ) → ltb 0 (cond pending (leftOf delay m now) 0) ≡ true → Left delay (momentOf m) now (cond pending (leftOf delay m now) 0)
+left-pending : (pending : Bool) (delay : ℕ) (m : Moment) (now : ℕ) → ltb 0 (cond pending (leftOf delay m now) 0) ≡ true
+    → Left delay (momentOf m) now (cond pending (leftOf delay m now) 0)
 left-pending true delay m now e = left-of delay m now e
 left-pending false delay m now e = absurd (let z = ltb-true 0 0 e in omega arith)
 
@@ -138,7 +141,8 @@ module _ (P : Wish → Type 0) where
   if-retry (next.New e) rest h k = h e refl
   if-retry next.Nothing rest h k = k
 
-  if-attempt : (x : Next) (rest : Wish) → ((e : Endpoint) → x ≡ next.New e → P (wish.Attempt e)) → (x ≡ next.Nothing → P rest) → P (attemptWish x rest)
+  if-attempt : (x : Next) (rest : Wish) → ((e : Endpoint) → x ≡ next.New e → P (wish.Attempt e)) → (x ≡ next.Nothing → P rest)
+      → P (attemptWish x rest)
   if-attempt (next.New e) rest h k = h e refl
   if-attempt next.Nothing rest h k = k refl
 
@@ -159,7 +163,8 @@ next-new test l e h = by (firstOf (λ x. not (test x)) l) refl h
     by none g h = absurd (let z : _≡_ {A = ℕ} 0 1 = cc in omega arith)
     by (some x) g h = let z : x ≡ e = cc in not-true (test e) (first-member (λ y. not (test y)) l e (g ∙ ap some z) .1)
 
-next-none : (test : Endpoint → Bool) (l : List Endpoint) → nextOf (firstOf (λ x. not (test x)) l) ≡ next.Nothing → (e : Endpoint) → List·Memᴰ e l → test e ≡ true
+next-none : (test : Endpoint → Bool) (l : List Endpoint) → nextOf (firstOf (λ x. not (test x)) l) ≡ next.Nothing → (e : Endpoint)
+    → List·Memᴰ e l → test e ≡ true
 next-none test l h e i = by (firstOf (λ x. not (test x)) l) refl h
   where
     by : (o : Option Endpoint) → firstOf (λ x. not (test x)) l ≡ o → nextOf o ≡ next.Nothing → test e ≡ true
@@ -234,7 +239,8 @@ module _ (m : Machine) (now : ℕ) where
       (opens-some i (rw a) (some-imp (λ x. hasAddress (x .answer)) isAnswered (asked (m .queries)) (λ x h. address-answered (x .answer) h) a))
 
   -- with hints too, as no service is held before an answer
-  hinted-answered : Served (m .services) (asked (m .queries)) → someAddress (asksOf (m .queries)) (hintsOf (m .services)) ≡ true → some? isAnswered (asked (m .queries)) ≡ true
+  hinted-answered : Served (m .services) (asked (m .queries)) → someAddress (asksOf (m .queries)) (hintsOf (m .services)) ≡ true
+      → some? isAnswered (asked (m .queries)) ≡ true
   unfolding asksOf hintsOf someAddress some?
   hinted-answered (inr h) e = counts-some isAnswered (asked (m .queries)) h
   hinted-answered (inl h) e =
@@ -284,7 +290,8 @@ module _ (m : Machine) (now : ℕ) where
       (λ e. if-so Why (ltb 0 (resolutionLeft (m .timing) (asksOf (m .queries)) now)) _ _ (λ f. left-pending (asksOf (m .queries) .pending) (m .timing .resolution) (asksOf (m .queries) .oldest) now f)
       (λ f. why-last (record { no-attempt = g; no-query = q; no-delay = e; no-wait = f })))
 
-  found-at : {B : Type 0} (test : B → Bool) (l : List B) (d : B) (p : ℕ) → firstPlace test 0 l ≡ place.At p → (p < length l) × (test (getD l p d) ≡ true)
+  found-at : {B : Type 0} (test : B → Bool) (l : List B) (d : B) (p : ℕ) → firstPlace test 0 l ≡ place.At p
+      → (p < length l) × (test (getD l p d) ≡ true)
   found-at test l d p e = let k = place-at test 0 l d p e in let z : p - 0 ≡ p = omega arith in (omega (arith, k .1), rw z at (k .2))
 
   gate-new : (b : Bool) (x : Next) (e : Endpoint) → cond b x next.Nothing ≡ next.New e → x ≡ next.New e
