@@ -1,18 +1,17 @@
 -- Demand 3 once over any machine that has the facts: 95 by counting what was asked; 288 by a measure that every answer but a final one
 -- lowers; the other claims call by call.
-use Prim.Native.Nat.{ℕ, zero, suc, _+_, _*_, _-_, _≤_, _<_}
-use mathlib.Core.Path.{_≡_, refl, sym, ap, _∙_}
-use mathlib.Core.Bool.{Bool, true, false, false≢true}
-use mathlib.Core.Logic.{_⊎_, inl, inr, ⊎-elim}
+use Prim.Native.Nat.{ℕ, _+_, _*_, _-_, _≤_, _<_}
+use mathlib.Core.Path.{_≡_, refl, ap}
+use mathlib.Core.Bool.{Bool, true, false}
+use mathlib.Core.Logic.{_⊎_, ⊎-elim}
 use mathlib.Core.List.{List, [], _∷_, _++_}
 use native.Mathlib.Omega.{arith}
-use lib.ListN.{length, take}
-use Rattle.records.specs.declared.endpoints.Endpoint.{Endpoint}
+use lib.ListN.{length}
 use Rattle.machine.specs.declared.grant.Output.{Output}
 use Rattle.machine.specs.declared.grant.Output.the-variants as output
-use Rattle.history.specs.History.{Automaton, isAsk, isFinal, Event, input, call, one, runs, answers, asksIn, finalsIn, inputsIn, calls, callsOf, unheeded, from, rising, keeps, callsAt, Exactly, NoEarlier, Awaits, atCalls}
+use Rattle.history.specs.History.{Automaton, isAsk, isFinal, Event, input, call, one, runs, answers, asksIn, finalsIn, inputsIn, calls, callsOf, from, rising, keeps, callsAt, Exactly, NoEarlier, Awaits, atCalls}
 use Rattle.history.specs.Facts.{View, Facts}
-use Rattle.history.specs.Claims.{Premise, AtMost95, By288, By288Heeded, AllBut287, TwoForEach, Fuel, WaitsForSomething, isRest, TriesAll, AttemptsNew}
+use Rattle.history.specs.Claims.{AtMost95, By288, By288Heeded, AllBut287, TwoForEach, Fuel, WaitsForSomething, isRest, TriesAll, AttemptsNew}
 use Rattle.history.proofs.Marks.{ahead, ahead-le, ahead-one, ahead-none, ahead-later}
 use Rattle.history.proofs.Counting.{one-le, answers-calls, inputs-calls, take-finals, unheeded-answers, rising-after}
 
@@ -145,7 +144,8 @@ module _ (M : Automaton) (S : View M) (R : Facts M S) where
   measure-later s t u h = let a = ahead-later t u (R .attemptEnd s) h in let r = ahead-later t u (R .resolutionEnd s) h in omega arith
 
   -- a timer has its own end ahead, and not any more from its end on
-  measure-timer : (s : M .State) (t d u : ℕ) → 0 < d → t + d ≤ u → (t + d ≡ R .attemptEnd s) ⊎ (t + d ≡ R .resolutionEnd s) → measure s u + 1 ≤ measure s t
+  measure-timer : (s : M .State) (t d u : ℕ) → 0 < d → t + d ≤ u → (t + d ≡ R .attemptEnd s) ⊎ (t + d ≡ R .resolutionEnd s)
+      → measure s u + 1 ≤ measure s t
   unfolding measure
   measure-timer s t d u p l e =
       ⊎-elim
@@ -238,27 +238,6 @@ module _ (M : Automaton) (S : View M) (R : Facts M S) where
       let z = by-answer s u (M .says s u) h g q (r .0) refl (k .0) ih in
       omega arith
 
-  rest-all : (s : M .State) → rest s ≤ 285
-  unfolding rest
-  rest-all s = omega arith
-
-  -- inputs going on, from the making
-  pub two-for-each : TwoForEach M
-  unfolding TwoForEach Bound
-  two-for-each h r k =
-      let b = bound (M .made) 0 h (R .good-made) (R .past-made) (from-zero h) r k in
-      let z = top-high (M .made) h in
-      let a = rest-all (M .made) in
-      omega arith
-
-  pub fuel : Fuel M
-  unfolding Fuel TwoForEach
-  fuel h r k =
-      let b = two-for-each h r (weaker Awaits NoEarlier awaits-no-earlier M (M .made) h k) in
-      let f = finals-few M (M .made) h k in
-      let o = begins-le h in
-      omega arith
-
   -- after the events before, some reading has come that nothing later precedes, and that no moment held exceeds
   record Since (s : M .State) (h : List (Event (M .Input))) : Type 0 where
     at : ℕ
@@ -281,15 +260,30 @@ module _ (M : Automaton) (S : View M) (R : Facts M S) where
       let m = R .most (runs M (M .made) before) (good-runs (M .made) before (R .good-made)) in
       omega arith
 
-  pub all-but-287 : AllBut287 M
-  unfolding AllBut287 Bound
-  all-but-287 before us r k =
+  pub two-for-each : TwoForEach M
+  unfolding TwoForEach Bound
+  two-for-each before h r k =
       let s = runs M (M .made) before in
-      let w = since (M .made) 0 before (calls us) (R .good-made) (R .past-made) (from-zero (before ++ calls us)) r in
-      let b = bound s (w .at) (calls us) (good-runs (M .made) before (R .good-made)) (w .past) (w .later) (w .goes-on) k in
-      let z = top-high s (calls us) in
+      let w = since (M .made) 0 before h (R .good-made) (R .past-made) (from-zero (before ++ h)) r in
+      let b = bound s (w .at) h (good-runs (M .made) before (R .good-made)) (w .past) (w .later) (w .goes-on) k in
+      let z = top-high s h in
       let a = rest-asked before in
-      let n = answers-calls M s us in
+      omega arith
+
+  pub fuel : Fuel M
+  unfolding Fuel TwoForEach
+  fuel before h r k =
+      let s = runs M (M .made) before in
+      let b = two-for-each before h r (weaker Awaits NoEarlier awaits-no-earlier M s h k) in
+      let f = finals-few M s h k in
+      let o = begins-le h in
+      omega arith
+
+  pub all-but-287 : AllBut287 M
+  unfolding AllBut287 TwoForEach
+  all-but-287 before us r k =
+      let b = two-for-each before (calls us) r k in
+      let n = answers-calls M (runs M (M .made) before) us in
       let i = inputs-calls (M .Input) us in
       omega arith
 

@@ -1,6 +1,6 @@
 -- The records and the attempts over one step: an ask changes them in one of four ways, an input in one of two. So 95 = 16 + 16 + 32 + 31.
 use Prim.Native.Nat.{ℕ, suc, _+_, _*_, _≤_, _<_}
-use mathlib.Core.Path.{_≡_, refl, ap}
+use mathlib.Core.Path.{_≡_, ap}
 use mathlib.Core.Bool.{Bool, true, false}
 use mathlib.Core.List.{List, [], _∷_, _++_}
 use native.Mathlib.Omega.{arith}
@@ -8,14 +8,14 @@ use lib.ListN.{length, getD, set, length-append, length-set}
 use Rattle.records.specs.declared.queries.Refresh.{Refresh}
 use Rattle.records.specs.declared.queries.Refresh.the-variants.{Idle, InFlight, Done}
 use Rattle.records.specs.declared.queries.Query.{Query}
-use Rattle.state.specs.State.{isOpen, hasWon}
+use Rattle.state.specs.State.{hasWon}
 use Rattle.state.specs.declared.attempts.State.{State}
 use Rattle.state.specs.declared.attempts.State.the-variants as state
 use Rattle.state.specs.declared.attempts.Attempt.{Attempt}
 use Rattle.starting.specs.Surveys.{hasWonAttempt, isAnswered}
 use Rattle.history.specs.History.{one}
 use Rattle.history.specs.Edition.{cameAt, All}
-use Rattle.history.proofs.Tables.{count, count-le, count-push, count-set, count-get, count-apart, all-push, all-set, all-get, all-imp}
+use Rattle.history.proofs.Tables.{count, count-le, count-push, count-set, count-get, count-apart, all-push, all-set, all-get}
 
 -- whether a refresh was sent, and whether an attempt was cancelled
 abbrev pub isBegun : Refresh → Bool
@@ -41,7 +41,8 @@ Tidy q = isAnswered q ≡ false → (q .stale ≡ false) × (begun q ≡ false)
 
 -- an ask at t: one query record more, a refresh, one attempt more, or a cancel
 pub data Asks (t : ℕ) (qs : List Query) (ts : List Attempt) (qs′ : List Query) (ts′ : List Attempt) : Type 0 where
-  new-query : (q : Query) → length qs < 16 → begun q ≡ false → cameAt (q .answer) ≤ t → Tidy q → qs′ ≡ qs ++ (q ∷ []) → ts′ ≡ ts → Asks t qs ts qs′ ts′
+  new-query : (q : Query) → length qs < 16 → begun q ≡ false → cameAt (q .answer) ≤ t → Tidy q → qs′ ≡ qs ++ (q ∷ []) → ts′ ≡ ts
+      → Asks t qs ts qs′ ts′
   refresh : (i : ℕ) (q d : Query) → i < length qs → begun (getD qs i d) ≡ false → begun q ≡ true → q .answer ≡ getD qs i d .answer → Tidy q
       → qs′ ≡ set qs i q → ts′ ≡ ts → Asks t qs ts qs′ ts′
   new-attempt : (a : Attempt) → length ts < 32 → a .state ≡ state.InProgress → a .started ≤ t → qs′ ≡ qs → ts′ ≡ ts ++ (a ∷ []) → Asks t qs ts qs′ ts′

@@ -2,11 +2,11 @@
 use mathlib.Core.Path.{_≡_, refl, ap}
 use mathlib.Core.Bool.{Bool, true, false}
 use mathlib.Core.List.{List, [], _∷_, _++_}
-use Prim.Native.Nat.{ℕ, zero, suc, _+_, _*_, _≤_, _<_}
+use Prim.Native.Nat.{ℕ, zero, suc, _+_, _≤_}
 use native.Mathlib.Omega.{arith}
 use lib.ListN.{length, take}
 use Rattle.machine.specs.declared.grant.Output.{Output}
-use Rattle.history.specs.History.{Automaton, Event, input, call, one, isFinal, asksIn, finalsIn, inputsIn, answers, calls, callsOf, unheeded, from, rising, reading}
+use Rattle.history.specs.History.{Automaton, Event, input, call, one, isFinal, finalsIn, inputsIn, answers, calls, callsOf, unheeded, from, rising, reading}
 
 -- as many answers as calls
 pub answers-calls : (M : Automaton) (s : M .State) (us : List ℕ) → length (answers M s (calls us)) ≡ length us

@@ -1,9 +1,9 @@
 -- The calls over any edition have the facts: so demand 3 holds of each edition that shows what its wishes rest on.
-use Prim.Native.Nat.{ℕ, suc, _+_, _-_, _≤_, _<_}
+use Prim.Native.Nat.{ℕ, suc, _+_, _≤_, _<_}
 use mathlib.Core.Path.{_≡_, refl, sym, subst}
 use mathlib.Core.Bool.{Bool, true, false}
 use mathlib.Core.Logic.{_⊎_, inl, inr}
-use mathlib.Core.List.{List, []}
+use mathlib.Core.List.{List}
 use native.Mathlib.Omega.{arith}
 use Rattle.records.specs.Queries.{noQueries}
 use Rattle.records.specs.Services.{noServices}
@@ -20,10 +20,9 @@ use Rattle.machine.specs.declared.grant.Output.{Output}
 use Rattle.machine.specs.declared.grant.Output.the-variants as output
 use Rattle.machine.specs.Steps.{called, changeOf, judged, fed, inputStep}
 use Rattle.history.specs.History.{isAsk}
-use Rattle.history.specs.Claims.{isRest}
 use Rattle.history.specs.Facts.{Facts}
-use Rattle.history.specs.Race.{Fed, raceBy, view, unanswered, Condition, AllTried, wasAttempted}
-use Rattle.history.specs.Edition.{Edition, Left, All, cameAt}
+use Rattle.history.specs.Race.{Fed, raceBy, view}
+use Rattle.history.specs.Edition.{Edition, Left, All}
 use Rattle.history.proofs.Tables.{count, all-imp}
 use Rattle.history.proofs.Changing.{Fits, Held, askedOf, asked-most, asks-one, asks-fit, asks-held, asks-answered, takes-none, takes-fit, takes-held}
 use Rattle.history.proofs.Rooms.{Room, made-room, called-room, fed-room}
@@ -131,7 +130,8 @@ module _ (wish : Machine → ℕ → Wish) (E : Edition wish) (m : Machine) (now
       by (inl k) = let z = left-ends _ _ now d (E .started m now (p .started)) k in (z .0, inl (z .1))
       by (inr k) = let z = left-ends _ _ now d (E .answered m now (p .came)) k in (z .0, inr (z .1))
 
-pub facts : (wish : Machine → ℕ → Wish) → Edition wish → (r : Rules) (t : Timing) (l : Alts) (n : Names) → Facts (raceBy wish r t l n) (view wish r t l n)
+pub facts : (wish : Machine → ℕ → Wish) → Edition wish → (r : Rules) (t : Timing) (l : Alts) (n : Names)
+    → Facts (raceBy wish r t l n) (view wish r t l n)
 facts wish E r t l n =
     record {
       Good = Own;
@@ -157,6 +157,7 @@ facts wish E r t l n =
     }
 
 -- what stands over any history stands where the facts are used
-pub good-own : (wish : Machine → ℕ → Wish) (E : Edition wish) (r : Rules) (t : Timing) (l : Alts) (n : Names) (m : Machine) → facts wish E r t l n .Good m → Own m
+pub good-own : (wish : Machine → ℕ → Wish) (E : Edition wish) (r : Rules) (t : Timing) (l : Alts) (n : Names) (m : Machine)
+    → facts wish E r t l n .Good m → Own m
 unfolding facts
 good-own wish E r t l n m o = o

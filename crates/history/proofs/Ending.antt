@@ -13,13 +13,13 @@ use Rattle.machine.specs.declared.wish.Wish.the-variants as wish
 use Rattle.machine.specs.declared.grant.Turn.{Turn}
 use Rattle.machine.specs.Output.{wishOf, granted, grantOf, queryGrant, attemptGrant}
 use Rattle.machine.specs.Steps.{turnOf, outputStep}
-use Rattle.history.specs.Claims.{isRest, TriesAll}
+use Rattle.history.specs.Claims.{isRest}
 use Rattle.history.specs.Facts.{Facts}
 use Rattle.history.specs.Race.{race, raceBy, edition, view, WithHints, AllTried}
 use Rattle.history.specs.Demand.{Demand3, Beyond}
 use Rattle.history.proofs.Calling.{at-most-95, by-288, by-288-heeded, all-but-287, two-for-each, fuel, waits-for-something, tries-all, tries-when, attempts-new}
 use Rattle.history.proofs.Hosts.{host-there}
-use Rattle.history.proofs.Editions.{Own, facts, good-own}
+use Rattle.history.proofs.Editions.{facts, good-own}
 use Rattle.history.proofs.Wishing.{is-edition, Why, why, Idle, idle-hinted}
 
 never : (b : Bool) (x y : Turn) → isRest (x .output) ≡ false → isRest (y .output) ≡ false → isRest (cond b x y .output) ≡ true → ⊥
@@ -47,7 +47,8 @@ module _ (r : Rules) (t : Timing) (l : Alts) (n : Names) where
       }
 
   -- where Waiting or Failed is said nothing else was to do
-  rest-idle : (m : Machine) (now : ℕ) (w : Wish) → isRest (granted (m .queries) (m .attempts) (m .ids) w now .output) ≡ true → Why m now w → Idle m now
+  rest-idle : (m : Machine) (now : ℕ) (w : Wish) → isRest (granted (m .queries) (m .attempts) (m .ids) w now .output) ≡ true → Why m now w
+      → Idle m now
   unfolding granted grantOf queryGrant attemptGrant
   rest-idle m now (wish.Cancel p) e y = absurd (false≢true e)
   rest-idle m now wish.Succeeded e y = absurd (false≢true e)

@@ -1,8 +1,8 @@
 -- An input over the whole machine: refused it leaves both tables; accepted it holds an answer or ends an attempt in progress.
-use Prim.Native.Nat.{ℕ, _≤_, _<_, min}
+use Prim.Native.Nat.{ℕ, _≤_, _<_}
 use mathlib.Core.Path.{_≡_, refl, sym, ap, _∙_}
 use mathlib.Core.Bool.{Bool, true, false, cond}
-use mathlib.Core.Logic.{_⊎_, inl, inr}
+use mathlib.Core.Logic.{_⊎_, inr}
 use mathlib.Core.List.{List}
 use native.Mathlib.Omega.{arith}
 use lib.ListN.{length, getD, set}
@@ -26,8 +26,8 @@ use Rattle.state.specs.declared.changes.InputChange.the-variants as change
 use Rattle.state.specs.declared.changes.Round.{Round}
 use Rattle.state.specs.declared.changes.Round.the-variants.{First, Second}
 use Rattle.starting.specs.Surveys.{isAnswered}
-use Rattle.input.specs.Input.{isFailed, storedAt, stored, withAnswer, recordAt, attemptAt, verdictOf}
-use Rattle.input.specs.Verdicts.{Waits, refreshAfter, Answered, endOf, again, Ends, Ended, recordsIn, attemptsIn}
+use Rattle.input.specs.Input.{isFailed, storedAt, withAnswer, recordAt, attemptAt, verdictOf}
+use Rattle.input.specs.Verdicts.{resultOf, Waits, refreshAfter, Answered, endOf, again, Ends, Ended}
 use Rattle.input.specs.declared.Input.{Input}
 use Rattle.input.specs.declared.Input.the-variants as input
 use Rattle.input.specs.declared.Verdict.{Verdict}
@@ -37,7 +37,7 @@ use Rattle.input.specs.declared.Outcome.the-variants as outcome
 use Rattle.input.proofs.Laws.{held-after, failed-after, ended-after}
 use Rattle.machine.specs.declared.calls.Beside.{Beside}
 use Rattle.machine.specs.After.{queriesFed, attemptsFed, servicesFed, putQuery, putAttempt}
-use Rattle.machine.specs.Steps.{changeOf, judged, fed}
+use Rattle.machine.specs.Steps.{changeOf, judged}
 use Rattle.history.specs.History.{one}
 use Rattle.history.specs.Edition.{cameAt}
 use Rattle.history.proofs.Tables.{count, count-set, count-get, all-get}
@@ -150,7 +150,8 @@ module _ (m : Machine) (now : ℕ) (o : Room (m .queries) (m .attempts)) (f : Fi
         same : getD (tried (m .attempts)) p noAttempt ≡ a
         same = getD-take (m .attempts .count) (m .attempts .list) p noAttempt in-count
 
-        over : a .state ≡ state.InProgress → Takes now (asked (m .queries)) (tried (m .attempts)) (asked (m .queries)) (tried (putAttempt (m .attempts) p a′))
+        over : a .state ≡ state.InProgress
+            → Takes now (asked (m .queries)) (tried (m .attempts)) (asked (m .queries)) (tried (putAttempt (m .attempts) p a′))
         over e = result p a′ noAttempt in-use (ap (λ z. z .state) same ∙ e) (end-open r) (ap (λ z. z .started) (sym same)) refl (attempt-old (m .attempts) p a′ in-count (o .tried-in))
 
         either : (t : Bool) → a .state ≡ state.InProgress → Taken (cond t (change.Retries p a′ n) (change.Ends p a′)) b
@@ -163,17 +164,28 @@ module _ (m : Machine) (now : ℕ) (o : Room (m .queries) (m .attempts)) (f : Fi
         by state.Failed e k = absurd k
         by state.Cancelled e k = rw k (unchanged b)
 
-  accepted : (i : Input) (c : InputChange) (b : Beside) → verdictOf (m .rules .ech) (m .queries) (m .attempts) (m .retries .count) i now ≡ verdict.Accepted c → Taken c b
-  accepted (input.Fails k id stale) c b e = holds k id stale (held.Failed now) (omega arith) refl c b (failed-after (m .rules .ech) (m .queries) (m .attempts) (m .retries .count) now k id stale c e)
-  accepted (input.Holds k id stale n) c b e = holds k id stale (held.Held now n) (omega arith) refl c b (held-after (m .rules .ech) (m .queries) (m .attempts) (m .retries .count) now k id stale n c e)
-  accepted (input.Success id) c b e = ends (m .rules .ech) (m .retries .count) id outcome.Success c b (ended-after (m .rules .ech) (m .queries) (m .attempts) (m .retries .count) now outcome.Success id c e)
-  accepted (input.Failure id) c b e = ends (m .rules .ech) (m .retries .count) id outcome.Failure c b (ended-after (m .rules .ech) (m .queries) (m .attempts) (m .retries .count) now outcome.Failure id c e)
-  accepted (input.EchRetry id) c b e = ends (m .rules .ech) (m .retries .count) id outcome.EchRetry c b (ended-after (m .rules .ech) (m .queries) (m .attempts) (m .retries .count) now outcome.EchRetry id c e)
+  abbrev verdictOn : Input → Verdict
+  verdictOn i = verdictOf (m .rules .ech) (m .queries) (m .attempts) (m .retries .count) i now
+
+  ended : (r : Outcome) (id : ℕ) (c : InputChange) (b : Beside) → verdictOn (resultOf r id) ≡ verdict.Accepted c → Taken c b
+  ended r id c b e =
+      ends (m .rules .ech) (m .retries .count) id r c b (ended-after (m .rules .ech) (m .queries) (m .attempts) (m .retries .count) now r id c e)
+
+  accepted : (i : Input) (c : InputChange) (b : Beside) → verdictOn i ≡ verdict.Accepted c → Taken c b
+  accepted (input.Fails k id stale) c b e =
+      holds k id stale (held.Failed now) (omega arith) refl c b
+      (failed-after (m .rules .ech) (m .queries) (m .attempts) (m .retries .count) now k id stale c e)
+  accepted (input.Holds k id stale n) c b e =
+      holds k id stale (held.Held now n) (omega arith) refl c b
+      (held-after (m .rules .ech) (m .queries) (m .attempts) (m .retries .count) now k id stale n c e)
+  accepted (input.Success id) c b e = ended outcome.Success id c b e
+  accepted (input.Failure id) c b e = ended outcome.Failure id c b e
+  accepted (input.EchRetry id) c b e = ended outcome.EchRetry id c b e
 
   pub taken : (i : Input) (b : Beside) → Taken (changeOf (judged m now i)) b
   unfolding judged
-  taken i b = by (verdictOf (m .rules .ech) (m .queries) (m .attempts) (m .retries .count) i now) refl
+  taken i b = by (verdictOn i) refl
     where
-      by : (v : Verdict) → verdictOf (m .rules .ech) (m .queries) (m .attempts) (m .retries .count) i now ≡ v → Taken (changeOf v) b
+      by : (v : Verdict) → verdictOn i ≡ v → Taken (changeOf v) b
       by (verdict.Accepted c) e = accepted i c b e
       by (verdict.Refused r) e = unchanged b

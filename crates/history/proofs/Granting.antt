@@ -1,9 +1,8 @@
 -- A call over any edition: what it asks changes the tables in one of the four ways, and any other answer leaves the machine.
-use Prim.Native.Nat.{ℕ, _+_, _≤_, _<_}
+use Prim.Native.Nat.{ℕ, _<_}
 use mathlib.Core.Path.{_≡_, refl, sym, ap, _∙_}
 use mathlib.Core.Bool.{Bool, true, false, false≢true, cond}
 use mathlib.Core.Logic.{_⊎_, inl, inr}
-use mathlib.Core.List.{List}
 use native.Mathlib.Omega.{arith}
 use lib.Dec.{leb}
 use lib.ListN.{length, getD}
@@ -12,21 +11,17 @@ use borrow.Author.Tests.{leb-false}
 use Rattle.pacing.specs.Ids.{nextId}
 use Rattle.records.specs.Lists.{some?}
 use Rattle.records.specs.Queries.{noQuery}
-use Rattle.records.specs.declared.queries.Answer.{Answer}
-use Rattle.records.specs.declared.queries.Answer.the-variants as answer
 use Rattle.records.specs.declared.queries.Kind.{Kind}
 use Rattle.records.specs.declared.queries.Refresh.{Refresh}
 use Rattle.records.specs.declared.queries.Refresh.the-variants.{Idle, InFlight, Done}
 use Rattle.records.specs.declared.queries.Query.{Query}
-use Rattle.records.specs.declared.queries.Queries.{Queries}
 use Rattle.records.specs.declared.endpoints.Endpoint.{Endpoint}
 use Rattle.state.specs.State.{asked, tried, noAttempt, newAttempt, withState, isOpen}
 use Rattle.state.specs.declared.Machine.{Machine}
 use Rattle.state.specs.declared.attempts.State.{State}
 use Rattle.state.specs.declared.attempts.State.the-variants as state
 use Rattle.state.specs.declared.attempts.Attempt.{Attempt}
-use Rattle.state.specs.declared.attempts.Attempts.{Attempts}
-use Rattle.starting.specs.Surveys.{isOpenAttempt, hasWonAttempt, isAnswered, isDue, isDueQuery}
+use Rattle.starting.specs.Surveys.{isOpenAttempt, hasWonAttempt, isDue, isDueQuery}
 use Rattle.machine.specs.declared.wish.Wish.{Wish}
 use Rattle.machine.specs.declared.wish.Wish.the-variants as wish
 use Rattle.machine.specs.declared.grant.Output.{Output}
@@ -37,9 +32,9 @@ use Rattle.machine.specs.Steps.{called}
 use Rattle.history.specs.History.{isAsk}
 use Rattle.history.specs.Claims.{isRest}
 use Rattle.history.specs.Race.{unanswered, Condition, AllTried, wasAttempted}
-use Rattle.history.specs.Edition.{Delays, Left, Rests, All}
+use Rattle.history.specs.Edition.{Delays, Left, Rests}
 use Rattle.history.proofs.Tables.{some-counts, all-get}
-use Rattle.history.proofs.Changing.{Asks, new-query, refresh, new-attempt, cancels, Fits, Tidy, begun, isBegun}
+use Rattle.history.proofs.Changing.{Asks, new-query, refresh, new-attempt, cancels, Fits, Tidy, isBegun}
 use Rattle.history.proofs.Putting.{query-old, query-new, attempt-old, attempt-new}
 use Rattle.history.proofs.Rooms.{Room}
 
@@ -60,7 +55,8 @@ stale-tidy : (q : Query) (id : ℕ) → Tidy q → q .stale ≡ true → Tidy (r
 stale-tidy q id k e u = absurd (false≢true (sym (k u .0) ∙ e))
 
 -- with room, or without
-if-room : (P : Turn → Type 0) (b : Bool) (x y : Turn) → isAsk (x .output) ≡ false → (b ≡ false → P y) → isAsk (cond b x y .output) ≡ true → P (cond b x y)
+if-room : (P : Turn → Type 0) (b : Bool) (x y : Turn) → isAsk (x .output) ≡ false → (b ≡ false → P y) → isAsk (cond b x y .output) ≡ true
+    → P (cond b x y)
 if-room P true x y n h e = absurd (false≢true (sym n ∙ e))
 if-room P false x y n h e = h refl
 
@@ -87,7 +83,8 @@ module _ (m : Machine) (now : ℕ) where
     many-tried : length (tried (m .attempts)) ≡ m .attempts .count
     many-tried = length-take-le (m .attempts .count) (m .attempts .list) (omega (arith, o .rooms, o .tried-in))
 
-    asks-query : (id : ℕ) (k : Kind) (p : ℕ) → isAsk (queryGrant (m .queries .count) id k p .output) ≡ true → AsksBy (queryGrant (m .queries .count) id k p)
+    asks-query : (id : ℕ) (k : Kind) (p : ℕ) → isAsk (queryGrant (m .queries .count) id k p .output) ≡ true
+        → AsksBy (queryGrant (m .queries .count) id k p)
     unfolding queryGrant
     asks-query id k p e =
         if-room AsksBy (leb 16 (m .queries .count)) _ _ refl
@@ -96,7 +93,8 @@ module _ (m : Machine) (now : ℕ) where
         new-query (newQuery id k p) (omega (arith, many-asked)) refl (omega arith) (λ u. (refl, refl)) (query-new (m .queries) (newQuery id k p) l (o .records)) refl)
         e
 
-    asks-attempt : (id : ℕ) (retry : Bool) (x : Endpoint) → isAsk (attemptGrant (m .attempts .count) id retry x now .output) ≡ true → AsksBy (attemptGrant (m .attempts .count) id retry x now)
+    asks-attempt : (id : ℕ) (retry : Bool) (x : Endpoint) → isAsk (attemptGrant (m .attempts .count) id retry x now .output) ≡ true
+        → AsksBy (attemptGrant (m .attempts .count) id retry x now)
     unfolding attemptGrant
     asks-attempt id retry x e =
         if-room AsksBy (leb 32 (m .attempts .count)) _ _ refl
@@ -105,7 +103,8 @@ module _ (m : Machine) (now : ℕ) where
         new-attempt (newAttempt id x now retry) (omega (arith, many-tried)) refl (omega arith) refl (attempt-new (m .attempts) (newAttempt id x now retry) l (o .rooms)))
         e
 
-    asks-cancel : (p : ℕ) → p < length (tried (m .attempts)) → isOpenAttempt (getD (tried (m .attempts)) p noAttempt) ≡ true → some? hasWonAttempt (tried (m .attempts)) ≡ true
+    asks-cancel : (p : ℕ) → p < length (tried (m .attempts)) → isOpenAttempt (getD (tried (m .attempts)) p noAttempt) ≡ true
+        → some? hasWonAttempt (tried (m .attempts)) ≡ true
         → AsksBy (cancelGrant (getD (m .attempts .list) p noAttempt) p)
     asks-cancel p l g h =
         let k : p < m .attempts .count = omega (arith, many-tried) in
@@ -113,7 +112,8 @@ module _ (m : Machine) (now : ℕ) where
         (ap (λ x. x .started) (sym (getD-take (m .attempts .count) (m .attempts .list) p noAttempt k))) refl
         (attempt-old (m .attempts) p (withState (getD (m .attempts .list) p noAttempt) state.Cancelled) k (o .tried-in))
 
-    asks-refresh : (id p : ℕ) → p < length (asked (m .queries)) → isDueQuery (getD (asked (m .queries)) p noQuery) ≡ true → AsksBy (refreshGrant (getD (m .queries .list) p noQuery) id p)
+    asks-refresh : (id p : ℕ) → p < length (asked (m .queries)) → isDueQuery (getD (asked (m .queries)) p noQuery) ≡ true
+        → AsksBy (refreshGrant (getD (m .queries .list) p noQuery) id p)
     asks-refresh id p l g =
         let k : p < m .queries .count = omega (arith, many-asked) in
         let e = getD-take (m .queries .count) (m .queries .list) p noQuery k in

@@ -1,26 +1,26 @@
 -- Two histories of Braidhatch itself in which a timer is given for ever: after a clock that went back, and to a host that doesn't wait.
-use Prim.Native.Nat.{ℕ, zero, suc, _+_, _≤_, _<_}
+use Prim.Native.Nat.{ℕ, zero, suc}
 use mathlib.Core.Path.{_≡_, refl}
-use mathlib.Core.Bool.{true, false}
-use mathlib.Core.List.{List, [], _∷_, _++_}
+use mathlib.Core.Bool.{true}
+use mathlib.Core.List.{[], _∷_, _++_}
 use native.Mathlib.Omega.{arith}
-use lib.ListN.{length, take, replicate, length-replicate}
+use lib.ListN.{take, replicate, length-replicate}
 use Rattle.records.specs.Lists.{some?, firstOf}
 use Rattle.records.specs.Queries.{noQueries}
 use Rattle.records.specs.Rules.{noAlts}
-use Rattle.records.specs.Services.{noServices, offered}
+use Rattle.records.specs.Services.{noServices}
 use Rattle.records.specs.declared.names.Names.{Names}
 use Rattle.records.specs.declared.queries.Kind.the-variants.{Https, Aaaa}
-use Rattle.state.specs.State.{made, noAttempts, noRetries, firstNames, isPrefixed, httpsPlace}
+use Rattle.state.specs.State.{made, noAttempts, noRetries, isPrefixed, httpsPlace}
 use Rattle.state.specs.declared.Machine.{Machine}
 use Rattle.starting.specs.Surveys.{firstPlace, latestOf, oldestOf, starts, triesOf, answerTimes, asksOf, hintsOf}
-use Rattle.starting.specs.Starting.{elapsed, attemptLeft, resolutionLeft, someAddress, preferredSettled, moveOnWithoutTimeout, moveOnWithTimeout, mayStart}
+use Rattle.starting.specs.Starting.{elapsed, attemptLeft, resolutionLeft, someAddress, moveOnWithoutTimeout, moveOnWithTimeout, mayStart}
 use Rattle.starting.specs.Wanted.{firstWanted, missing, originWanted, targetsWanted, altsWanted, wantedBy, nextQuery}
 use Rattle.starting.specs.Next.{retryEndpoints, nextRetry}
 use Rattle.input.specs.Input.{askedFrom, askedOf, firstAnswer, answerVerdict}
 use Rattle.machine.specs.declared.calls.Beside.{Beside}
 use Rattle.machine.specs.declared.grant.Output.the-variants as output
-use Rattle.machine.specs.Output.{lastWish, timerWish, gate, wishBy, wishOf, queryGrant, grantOf, granted}
+use Rattle.machine.specs.Output.{timerWish, gate, wishBy, wishOf, queryGrant, grantOf, granted}
 use Rattle.machine.specs.After.{putQuery}
 use Rattle.machine.specs.Steps.{turnOf, outputStep, judged, inputStep}
 use Rattle.history.specs.History.{Automaton, calls, from, rising, runs, answers, finalsIn, punctual}
@@ -50,15 +50,27 @@ module _ (n : Names) (b : Beside) where
   -- the answers: two queries, and once the clock is back, the whole delay again and again
   pub ten-again : answers M (M .made) (asksThenHears b 1_000_000 ++ calls (0 ∷ 10 ∷ []))
       ≡ output.Query 0 Https true 0 ∷ output.Query 1 Aaaa true 0 ∷ output.Timer 10 ∷ output.Timer 10 ∷ []
-  unfolding answers made outputStep turnOf wishOf wishBy granted grantOf queryGrant noQueries noAttempts noServices noRetries noAlts triesOf asksOf hintsOf some? starts latestOf firstPlace answerTimes oldestOf nextRetry retryEndpoints firstOf gate attemptLeft mayStart moveOnWithoutTimeout moveOnWithTimeout someAddress nextQuery wantedBy originWanted missing targetsWanted altsWanted firstWanted httpsPlace isPrefixed putQuery inputStep judged answerVerdict askedOf askedFrom firstAnswer timerWish resolutionLeft elapsed
+  unfolding answers made outputStep turnOf wishOf wishBy granted grantOf queryGrant noQueries noAttempts noServices noRetries noAlts
+      triesOf asksOf hintsOf some? starts latestOf firstPlace answerTimes oldestOf nextRetry retryEndpoints firstOf gate attemptLeft
+      mayStart moveOnWithoutTimeout moveOnWithTimeout someAddress nextQuery wantedBy originWanted missing targetsWanted altsWanted
+      firstWanted httpsPlace isPrefixed putQuery inputStep judged answerVerdict askedOf askedFrom firstAnswer timerWish resolutionLeft
+      elapsed
   ten-again = refl
 
   none-back : finalsIn (take 288 (answers M (heard 1_000_000) (calls (punctual M (heard 1_000_000) 0 288)))) ≡ 0
-  unfolding finalsIn punctual runs answers made outputStep turnOf wishOf wishBy granted grantOf queryGrant noQueries noAttempts noServices noRetries noAlts triesOf asksOf hintsOf some? starts latestOf firstPlace answerTimes oldestOf nextRetry retryEndpoints firstOf gate attemptLeft mayStart moveOnWithoutTimeout moveOnWithTimeout someAddress nextQuery wantedBy originWanted missing targetsWanted altsWanted firstWanted httpsPlace isPrefixed putQuery inputStep judged answerVerdict askedOf askedFrom firstAnswer timerWish resolutionLeft elapsed
+  unfolding finalsIn punctual runs answers
+      made outputStep turnOf wishOf wishBy granted grantOf queryGrant noQueries noAttempts noServices noRetries noAlts triesOf asksOf
+      hintsOf some? starts latestOf firstPlace answerTimes oldestOf nextRetry retryEndpoints firstOf gate attemptLeft mayStart
+      moveOnWithoutTimeout moveOnWithTimeout someAddress nextQuery wantedBy originWanted missing targetsWanted altsWanted firstWanted
+      httpsPlace isPrefixed putQuery inputStep judged answerVerdict askedOf askedFrom firstAnswer timerWish resolutionLeft elapsed
   none-back = refl
 
   clock-back : isOnClock M (heard 1_000_000) 0 288 ≡ true
-  unfolding isOnClock runs made outputStep turnOf wishOf wishBy granted grantOf queryGrant noQueries noAttempts noServices noRetries noAlts triesOf asksOf hintsOf some? starts latestOf firstPlace answerTimes oldestOf nextRetry retryEndpoints firstOf gate attemptLeft mayStart moveOnWithoutTimeout moveOnWithTimeout someAddress nextQuery wantedBy originWanted missing targetsWanted altsWanted firstWanted httpsPlace isPrefixed putQuery inputStep judged answerVerdict askedOf askedFrom firstAnswer timerWish resolutionLeft elapsed
+  unfolding isOnClock runs made outputStep turnOf wishOf wishBy granted grantOf queryGrant noQueries noAttempts noServices noRetries noAlts
+      triesOf asksOf hintsOf some? starts latestOf firstPlace answerTimes oldestOf nextRetry retryEndpoints firstOf gate attemptLeft
+      mayStart moveOnWithoutTimeout moveOnWithTimeout someAddress nextQuery wantedBy originWanted missing targetsWanted altsWanted
+      firstWanted httpsPlace isPrefixed putQuery inputStep judged answerVerdict askedOf askedFrom firstAnswer timerWish resolutionLeft
+      elapsed
   clock-back = refl
 
   pub never-back-needed : ClockBack M → ⊥
@@ -70,7 +82,11 @@ module _ (n : Names) (b : Beside) where
       omega arith
 
   none-early : finalsIn (take 288 (answers M (heard 0) (calls (replicate 288 0)))) ≡ 0
-  unfolding finalsIn runs answers made outputStep turnOf wishOf wishBy granted grantOf queryGrant noQueries noAttempts noServices noRetries noAlts triesOf asksOf hintsOf some? starts latestOf firstPlace answerTimes oldestOf nextRetry retryEndpoints firstOf gate attemptLeft mayStart moveOnWithoutTimeout moveOnWithTimeout someAddress nextQuery wantedBy originWanted missing targetsWanted altsWanted firstWanted httpsPlace isPrefixed putQuery inputStep judged answerVerdict askedOf askedFrom firstAnswer timerWish resolutionLeft elapsed
+  unfolding finalsIn runs answers made outputStep turnOf wishOf wishBy granted grantOf queryGrant noQueries noAttempts noServices noRetries
+      noAlts triesOf asksOf hintsOf some? starts latestOf firstPlace answerTimes oldestOf nextRetry retryEndpoints firstOf gate attemptLeft
+      mayStart moveOnWithoutTimeout moveOnWithTimeout someAddress nextQuery wantedBy originWanted missing targetsWanted altsWanted
+      firstWanted httpsPlace isPrefixed putQuery inputStep judged answerVerdict askedOf askedFrom firstAnswer timerWish resolutionLeft
+      elapsed
   none-early = refl
 
   risen : rising (asksThenHears b 0 ++ calls (replicate 288 0))

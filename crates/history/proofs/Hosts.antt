@@ -11,7 +11,7 @@ use borrow.Author.Tests.{ltb-true}
 use Rattle.machine.specs.declared.grant.Output.{Output}
 use Rattle.machine.specs.declared.grant.Output.the-variants as output
 use Rattle.history.specs.History.{Automaton, Event, reading, calls, runs, from, rising, keeps, callsAt, Exactly, after, punctual, onClock}
-use Rattle.history.specs.Claims.{Premise, HostThere}
+use Rattle.history.specs.Claims.{HostThere}
 
 pub many : (M : Automaton) (s : M .State) (t n : ℕ) → length (punctual M s t n) ≡ n
 unfolding punctual
@@ -41,12 +41,14 @@ rises M s t zero = tt
 rises M s t (suc n) = (from-then M (M .next s t) (after (M .says s t) t) t n (after-le (M .says s t) t), rises M (M .next s t) (after (M .says s t) t) n)
 
 -- after a history whose last reading isn't later
-from-last : (M : Automaton) (s : M .State) (t u n : ℕ) (h : List (Event (M .Input))) → from u (h ++ calls (t ∷ [])) → from u (h ++ calls (punctual M s t n))
+from-last : (M : Automaton) (s : M .State) (t u n : ℕ) (h : List (Event (M .Input))) → from u (h ++ calls (t ∷ []))
+    → from u (h ++ calls (punctual M s t n))
 unfolding from
 from-last M s t u n [] f = from-then M s t u n (f .0)
 from-last M s t u n (e ∷ h) f = (f .0, from-last M s t u n h (f .1))
 
-rises-after : (M : Automaton) (s : M .State) (t n : ℕ) (h : List (Event (M .Input))) → rising (h ++ calls (t ∷ [])) → rising (h ++ calls (punctual M s t n))
+rises-after : (M : Automaton) (s : M .State) (t n : ℕ) (h : List (Event (M .Input))) → rising (h ++ calls (t ∷ []))
+    → rising (h ++ calls (punctual M s t n))
 unfolding rising
 rises-after M s t n [] r = rises M s t n
 rises-after M s t n (e ∷ h) r = (from-last M s t (reading e) n h (r .0), rises-after M s t n h (r .1))

@@ -1,13 +1,14 @@
 -- 95 and 288 are the least numbers that the facts give, and with a timer of 0 there would be none.
-use Prim.Native.Nat.{ℕ, zero, suc, _+_, _≤_, _<_, _^_}
+use Prim.Native.Nat.{ℕ, _+_, _≤_}
 use mathlib.Core.Path.{_≡_, refl}
 use mathlib.Core.Bool.{Bool, true, false, cond}
 use mathlib.Core.List.{List, [], _∷_, _++_}
 use native.Mathlib.Omega.{arith}
 use lib.Dec.{eqb}
+use borrow.Author.Tests.{eqb-true}
 use lib.ListN.{length, take}
 use Rattle.machine.specs.declared.grant.Output.the-variants as output
-use Rattle.history.specs.History.{Automaton, Event, calls, runs, answers, asksIn, finalsIn, from, rising, after, punctual, onClock}
+use Rattle.history.specs.History.{Automaton, Event, calls, runs, answers, asksIn, finalsIn, from, rising, punctual, onClock}
 use Rattle.history.specs.Claims.{By288, HostThere, Premise}
 use Rattle.history.specs.Slowest.{slowest, does, due, zeroTimer, zeroSays}
 use Rattle.history.specs.Needed.{AtMost94, By287}
@@ -17,7 +18,8 @@ use Rattle.history.proofs.Slowest.{short}
 -- Numbers
 
 -- the punctual host, from any history
-host-there-at : (M : Automaton) (before : List (Event (M .Input))) (t n : ℕ) → rising (before ++ calls (t ∷ [])) → onClock M (runs M (M .made) before) t n
+host-there-at : (M : Automaton) (before : List (Event (M .Input))) (t n : ℕ) → rising (before ++ calls (t ∷ []))
+    → onClock M (runs M (M .made) before) t n
     → Premise M before (punctual M (runs M (M .made) before) t n) × (length (punctual M (runs M (M .made) before) t n) ≡ n)
 unfolding HostThere
 host-there-at M = host-there M
@@ -42,15 +44,19 @@ not-287 h =
     let y = none-of-287 in
     omega arith
 
--- A timer of 0
+-- A timer of 0: it ends where the delay does, at 0, and all else that the facts ask is plain of a machine that asks for nothing, holds no moment
+-- and never changes
+
+pub zero-ends : (s : zeroTimer .State) (t d : ℕ) → zeroSays s t ≡ output.Timer d → t + d ≡ 0
+unfolding zeroSays
+zero-ends s t d e = by (eqb t 0) refl e
+  where
+    by : (b : Bool) → eqb t 0 ≡ b → cond b (output.Timer 0) output.Waiting ≡ output.Timer d → t + d ≡ 0
+    by true h e = let z : 0 ≡ d = cc in omega (arith, eqb-true t 0 h)
+    by false h e = absurd (let z : _≡_ {A = ℕ} 0 1 = cc in omega arith)
 
 zero-short : (s : zeroTimer .State) (t d : ℕ) → zeroSays s t ≡ output.Timer d → d ≤ 0
-unfolding zeroSays
-zero-short s t d e = by (eqb t 0) e
-  where
-    by : (b : Bool) → cond b (output.Timer 0) output.Waiting ≡ output.Timer d → d ≤ 0
-    by true e = let z : 0 ≡ d = cc in omega arith
-    by false e = absurd (let z : _≡_ {A = ℕ} 0 1 = cc in omega arith)
+zero-short s t d e = omega (arith, zero-ends s t d e)
 
 none-at-zero : finalsIn (take 288 (answers zeroTimer tt (calls (punctual zeroTimer tt 0 288)))) ≡ 0
 unfolding finalsIn answers punctual zeroSays

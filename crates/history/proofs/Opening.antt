@@ -1,5 +1,5 @@
 -- When attempts may start once nothing else is to be done: no query is wanted and nothing is left of the resolution delay.
-use Prim.Native.Nat.{ℕ, _-_, _<_}
+use Prim.Native.Nat.{ℕ}
 use mathlib.Core.Path.{_≡_, refl, sym, ap, _∙_}
 use mathlib.Core.Bool.{Bool, true, false, false≢true, not, cond, _&&_, _||_}
 use mathlib.Core.List.{List, [], _∷_}
@@ -7,7 +7,7 @@ use native.Mathlib.Omega.{arith}
 use lib.Dec.{ltb}
 use Rattle.records.specs.Lists.{some?}
 use Rattle.records.specs.Queries.{answered}
-use Rattle.records.specs.Rules.{prefersSix, allowsSix, allowsFour, withHttps, isNamed}
+use Rattle.records.specs.Rules.{prefersSix, withHttps, isNamed}
 use Rattle.records.specs.declared.rules.Rules.{Rules}
 use Rattle.records.specs.declared.rules.Timing.{Timing}
 use Rattle.records.specs.declared.rules.Mode.{Mode}
@@ -20,9 +20,9 @@ use Rattle.records.specs.declared.queries.Answer.{Answer}
 use Rattle.records.specs.declared.queries.Answer.the-variants as answer
 use Rattle.records.specs.declared.queries.Query.{Query}
 use Rattle.state.specs.State.{httpsPlace}
-use Rattle.starting.specs.Surveys.{isKind, isAnswered, isAnsweredKind, hasAddress, came, answerTimes, soonerOf, oldestOf}
-use Rattle.starting.specs.Starting.{leftOf, resolutionLeft, resolutionMet, someAddress, preferredSettled, moveOnWithoutTimeout, moveOnWithTimeout, unresolved, mayStart}
-use Rattle.starting.specs.Wanted.{isMissing, missing, originAddresses, originWanted}
+use Rattle.starting.specs.Surveys.{isKind, isAnswered, isAnsweredKind, came, answerTimes, soonerOf, oldestOf}
+use Rattle.starting.specs.Starting.{resolutionLeft, resolutionMet, someAddress, preferredSettled, moveOnWithoutTimeout, moveOnWithTimeout, unresolved, mayStart}
+use Rattle.starting.specs.Wanted.{missing, originAddresses, originWanted}
 use Rattle.starting.specs.declared.surveys.Moment.{Moment}
 use Rattle.starting.specs.declared.surveys.Moment.the-variants as moment
 use Rattle.starting.specs.declared.surveys.Kinds.{Kinds}
@@ -91,7 +91,8 @@ module _ (t : Timing) (asks : Asks) (hinted : Hinted) (now : ℕ) where
   https-asked false w p e = never-wanted Https p e
 
   -- all is answered: no timeout is needed
-  answered-all : (m : Mode) (p : Preference) (place : ℕ) → unresolved m ≡ false → someAddress asks hinted ≡ true → Settled (asks .asked) (asks .answered)
+  answered-all : (m : Mode) (p : Preference) (place : ℕ) → unresolved m ≡ false → someAddress asks hinted ≡ true
+      → Settled (asks .asked) (asks .answered)
       → originIn m (cond (asks .asked .https) (originAddresses m p (asks .asked)) (wanted.Query Https place)) ≡ wanted.Nothing
       → asks .answered .https && cond (withHttps m) true (someAddress asks hinted && preferredSettled (t .wait) (prefersSix p) asks hinted) ≡ true
   answered-all mode.Ip p place u some s e =
@@ -102,7 +103,8 @@ module _ (t : Timing) (asks : Asks) (hinted : Hinted) (now : ℕ) where
 
   module _ (r : Rules) where
     -- an address, and nothing left to wait for or to ask: attempts may start
-    pub opens : someAddress asks hinted ≡ true → (w : ℕ) → asks .oldest ≡ moment.At w → (asks .pending ≡ false → Settled (asks .asked) (asks .answered))
+    pub opens : someAddress asks hinted ≡ true → (w : ℕ) → asks .oldest ≡ moment.At w
+        → (asks .pending ≡ false → Settled (asks .asked) (asks .answered))
         → originIn (r .mode) (originWanted r (asks .asked)) ≡ wanted.Nothing → ltb 0 (resolutionLeft t asks now) ≡ false → mayStart r t asks hinted now ≡ true
     unfolding mayStart originWanted moveOnWithoutTimeout moveOnWithTimeout resolutionLeft
     opens some w o s e l = by (isNamed (r .host)) (unresolved (r .mode)) (asks .pending) refl refl refl
@@ -147,12 +149,14 @@ module _ {B : Type 0} (p q : B → Bool) where
   some-imp [] h e = absurd (false≢true e)
   some-imp (x ∷ l) h e = by (p x) (q x) (h x) e (some-imp l h)
     where
-      by : (b c : Bool) → (b ≡ true → c ≡ true) → cond b true (some? p l) ≡ true → (some? p l ≡ true → some? q l ≡ true) → cond c true (some? q l) ≡ true
+      by : (b c : Bool) → (b ≡ true → c ≡ true) → cond b true (some? p l) ≡ true → (some? p l ≡ true → some? q l ≡ true)
+          → cond c true (some? q l) ≡ true
       by true c g e k = rw (g refl)
       by false true g e k = refl
       by false false g e k = k e
 
-pub kind-answered : (k : Kind) (l : List Query) → some? (λ x. not (isAnswered x)) l ≡ false → some? (isKind k) l ≡ true → some? (isAnsweredKind k) l ≡ true
+pub kind-answered : (k : Kind) (l : List Query) → some? (λ x. not (isAnswered x)) l ≡ false → some? (isKind k) l ≡ true
+    → some? (isAnsweredKind k) l ≡ true
 unfolding some?
 kind-answered k [] n e = absurd (false≢true e)
 kind-answered k (x ∷ l) n e = by (isKind k x) (isAnswered x) n e (kind-answered k l)
@@ -173,7 +177,9 @@ answer-came (x ∷ l) e = by (x .answer) e (answer-came l)
     sooner u moment.Never = (u, refl)
     sooner u (moment.At v) = (_, refl)
 
-    by : (y : Answer) → cond (answered y) true (some? isAnswered l) ≡ true → (some? isAnswered l ≡ true → (w : ℕ) × (oldestOf (answerTimes l) ≡ moment.At w)) → (w : ℕ) × (oldestOf (came y (answerTimes l)) ≡ moment.At w)
+    by : (y : Answer) → cond (answered y) true (some? isAnswered l) ≡ true
+        → (some? isAnswered l ≡ true → (w : ℕ) × (oldestOf (answerTimes l) ≡ moment.At w))
+        → (w : ℕ) × (oldestOf (came y (answerTimes l)) ≡ moment.At w)
     by answer.Pending e h = h e
     by (answer.Failed u) e h = sooner u (oldestOf (answerTimes l))
     by (answer.Held u n) e h = sooner u (oldestOf (answerTimes l))

@@ -1,14 +1,14 @@
 -- A record put into its table: at the first free place it is one more, at a place in use it takes the old one's.
-use Prim.Native.Nat.{ℕ, suc, _+_, _≤_, _<_}
-use mathlib.Core.Path.{_≡_, refl, ap, _∙_}
+use Prim.Native.Nat.{ℕ, _+_, _≤_, _<_}
+use mathlib.Core.Path.{_≡_, refl}
 use mathlib.Core.Bool.{Bool, true, false, cond}
 use mathlib.Core.List.{List, [], _∷_, _++_}
 use native.Mathlib.Numerals.{add-one}
 use native.Mathlib.Omega.{arith}
 use lib.Dec.{ltb}
-use lib.ListN.{length, take, getD, set, length-set}
+use lib.ListN.{length, take, set, length-set}
 use lib.Seq.{take-set-lt, take-suc-set}
-use borrow.Author.Tests.{ltb-true, ltb-false, lt-ltb, le-ltb}
+use borrow.Author.Tests.{ltb-true, lt-ltb, le-ltb}
 use Rattle.records.specs.declared.queries.Query.{Query}
 use Rattle.records.specs.declared.queries.Queries.{Queries}
 use Rattle.state.specs.State.{asked, tried}

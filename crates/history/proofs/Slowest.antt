@@ -6,15 +6,13 @@ use mathlib.Core.Logic.{_⊎_, inl, inr}
 use native.Mathlib.Omega.{arith}
 use lib.Dec.{ltb}
 use borrow.Author.Tests.{ltb-true, ltb-false, le-ltb}
-use Rattle.records.specs.declared.endpoints.Endpoint.{Endpoint}
 use Rattle.machine.specs.declared.grant.Output.{Output}
 use Rattle.machine.specs.declared.grant.Output.the-variants as output
-use Rattle.machine.specs.declared.grant.Table.the-variants as table
 use Rattle.history.specs.History.{isAsk}
 use Rattle.history.specs.Claims.{isRest}
 use Rattle.history.specs.Facts.{Facts}
 use Rattle.history.specs.Edition.{Left}
-use Rattle.history.specs.Slowest.{Slow, Deed, query, refresh, attempt, cancel, wait, rest, due, does, numbered, says, goes, hears, slowest, slowView}
+use Rattle.history.specs.Slowest.{Slow, Deed, query, refresh, attempt, cancel, wait, rest, due, does, says, goes, slowest, slowView}
 
 record Good (s : Slow) : Type 0 where
   queries : s .queries ≤ 16
@@ -31,9 +29,15 @@ Rests s t cancel = s .cancels < 31
 Rests s t (wait d) = Left 1 (s .last) t d ⊎ Left 2 (s .last) t d
 Rests s t rest = 32 ≤ s .attempts
 
+-- one of two deeds
 each : (P : Deed → Type 0) (b : Bool) (x y : Deed) → (b ≡ true → P x) → (b ≡ false → P y) → P (cond b x y)
 each P true x y h k = h refl
 each P false x y h k = k refl
+
+-- one of two answers
+either : (P : Output → Type 0) (b : Bool) (x y : Output) → (b ≡ true → P x) → (b ≡ false → P y) → P (cond b x y)
+either P true x y h k = h refl
+either P false x y h k = k refl
 
 module _ (s : Slow) (t : ℕ) where
   rests-due : Rests s t (due s)
@@ -50,19 +54,6 @@ module _ (s : Slow) (t : ℕ) where
       each (Rests s t) (ltb (t - s .last) 1) _ _ (λ e. inl (ltb-true (t - s .last) 1 e, refl))
       (λ e. each (Rests s t) (ltb (t - s .last) 2) _ _ (λ f. inr (ltb-true (t - s .last) 2 f, refl)) (λ f. rests-due))
 
-  good-by : (d : Deed) → Rests s t d → Good s → Good (goes s t d)
-  good-by query r g = record { queries = r; refreshes = g .refreshes; attempts = g .attempts; cancels = g .cancels }
-  good-by refresh r g = record { queries = g .queries; refreshes = r; attempts = g .attempts; cancels = g .cancels }
-  good-by attempt r g = record { queries = g .queries; refreshes = g .refreshes; attempts = r; cancels = g .cancels }
-  good-by cancel r g = record { queries = g .queries; refreshes = g .refreshes; attempts = g .attempts; cancels = r }
-  good-by (wait d) r g = g
-  good-by rest r g = g
-
-  -- at the end it asks nothing, whether its answer came or not
-  never : (b : Bool) → isAsk (cond b (output.Full table.Queries) output.Waiting) ≡ true → ⊥
-  never true e = false≢true e
-  never false e = false≢true e
-
 abbrev asksOf : Slow → ℕ
 asksOf s = s .queries + s .refreshes + s .attempts + s .cancels
 
@@ -73,7 +64,7 @@ module _ (s : Slow) (t : ℕ) where
   asked-by attempt e = omega arith
   asked-by cancel e = omega arith
   asked-by (wait d) e = absurd (false≢true e)
-  asked-by rest e = absurd (never s t (s .heard) e)
+  asked-by rest e = absurd (either (λ x. isAsk x ≡ true → ⊥) (s .heard) _ _ (λ b h. false≢true h) (λ b h. false≢true h) e)
 
   still-by : (d : Deed) → isAsk (says s d) ≡ false → goes s t d ≡ s
   still-by query e = absurd (false≢true (sym e))
@@ -90,6 +81,14 @@ module _ (s : Slow) (t : ℕ) where
   past-by cancel p = omega arith
   past-by (wait d) p = p
   past-by rest p = p
+
+  good-by : (d : Deed) → Rests s t d → Good s → Good (goes s t d)
+  good-by query r g = record { queries = r; refreshes = g .refreshes; attempts = g .attempts; cancels = g .cancels }
+  good-by refresh r g = record { queries = g .queries; refreshes = r; attempts = g .attempts; cancels = g .cancels }
+  good-by attempt r g = record { queries = g .queries; refreshes = g .refreshes; attempts = r; cancels = g .cancels }
+  good-by cancel r g = record { queries = g .queries; refreshes = g .refreshes; attempts = g .attempts; cancels = r }
+  good-by (wait d) r g = g
+  good-by rest r g = g
 
   -- what an answer rests on
   abbrev Stands : Output → Type 0
@@ -108,11 +107,7 @@ module _ (s : Slow) (t : ℕ) where
   stands-by attempt r = le-ltb (s .attempts) (s .attempts) (omega arith)
   stands-by cancel r = tt
   stands-by (wait d) r = r
-  stands-by rest r = by (s .heard) refl
-    where
-      by : (b : Bool) → s .heard ≡ b → Stands (cond b (output.Full table.Queries) output.Waiting)
-      by true e = tt
-      by false e = (rw e, r)
+  stands-by rest r = either Stands (s .heard) _ _ (λ e. tt) (λ e. (rw e, r))
 
   stands : Stands (says s (does s t))
   stands = stands-by (does s t) (rests s t)

@@ -1,8 +1,8 @@
 -- What the rules call for rests on what an edition must show.
-use Prim.Native.Nat.{ℕ, zero, suc, _+_, _-_, _≤_, _<_, min, max}
-use mathlib.Core.Path.{_≡_, refl, sym, ap, _∙_}
+use Prim.Native.Nat.{ℕ, suc, _+_, _-_, _≤_, _<_}
+use mathlib.Core.Path.{_≡_, refl, ap, _∙_}
 use mathlib.Core.Bool.{Bool, true, false, false≢true, not, cond, _&&_, _||_}
-use mathlib.Core.Logic.{_⊎_, inl, inr}
+use mathlib.Core.Logic.{inl, inr}
 use mathlib.Core.List.{List, [], _∷_, List·Memᴰ}
 use mathlib.Core.Option.{Option, none, some}
 use native.Mathlib.Omega.{arith}
@@ -12,7 +12,6 @@ use borrow.Author.Tests.{ltb-true, not-true, not-false}
 use Rattle.records.specs.Lists.{some?, firstOf}
 use Rattle.records.specs.Names.{sameAt}
 use Rattle.records.specs.Queries.{noQuery, answered}
-use Rattle.records.specs.Rules.{isNamed}
 use Rattle.records.specs.Endpoints.{sameEndpoint}
 use Rattle.records.specs.declared.rules.Mode.{Mode}
 use Rattle.records.specs.declared.rules.Mode.the-variants as mode
@@ -23,13 +22,13 @@ use Rattle.records.specs.declared.queries.Answer.the-variants as answer
 use Rattle.records.specs.declared.queries.Query.{Query}
 use Rattle.records.specs.declared.endpoints.Endpoint.{Endpoint}
 use Rattle.records.proofs.First.{only-if-none, first-member}
-use Rattle.state.specs.State.{asked, tried, noAttempt, isOpen, retriesOf}
+use Rattle.state.specs.State.{asked, tried, noAttempt, isOpen}
 use Rattle.state.specs.declared.Machine.{Machine}
 use Rattle.state.specs.declared.attempts.Attempt.{Attempt}
-use Rattle.starting.specs.Surveys.{firstPlace, laterOf, soonerOf, latestOf, oldestOf, starts, isOpenAttempt, hasWonAttempt, triesOf, isKind, isAnswered, isAnsweredKind, hasAddress, isFlying, came, answerTimes, isDueQuery, asksOf, hintsOf}
+use Rattle.starting.specs.Surveys.{firstPlace, laterOf, soonerOf, latestOf, oldestOf, starts, isOpenAttempt, triesOf, isKind, isAnswered, hasAddress, came, answerTimes, isDueQuery, asksOf, hintsOf}
 use Rattle.starting.specs.Starting.{elapsed, leftOf, attemptDelay, attemptLeft, resolutionLeft, someAddress, mayStart}
-use Rattle.starting.specs.Wanted.{orWanted, originWanted, wantedIn, wantedBy, nextQuery}
-use Rattle.starting.specs.Next.{attempted, nextOf, retryEndpoints, nextRetry, nextEndpoint}
+use Rattle.starting.specs.Wanted.{wantedIn, wantedBy, nextQuery}
+use Rattle.starting.specs.Next.{attempted, nextOf, nextRetry, nextEndpoint}
 use Rattle.starting.specs.declared.surveys.Moment.{Moment}
 use Rattle.starting.specs.declared.surveys.Moment.the-variants as moment
 use Rattle.starting.specs.declared.surveys.Place.{Place}
@@ -40,17 +39,18 @@ use Rattle.starting.specs.declared.wanted.Wanted.{Wanted}
 use Rattle.starting.specs.declared.wanted.Wanted.the-variants as wanted
 use Rattle.machine.specs.declared.wish.Wish.{Wish}
 use Rattle.machine.specs.declared.wish.Wish.the-variants as wish
-use Rattle.machine.specs.Output.{endWish, reasonOf, lastWish, timerWish, refreshWish, restWish, queryWish, attemptWish, retryWish, gate, wishBy, wishOf, originIn}
+use Rattle.machine.specs.Output.{endWish, reasonOf, lastWish, timerWish, refreshWish, queryWish, attemptWish, retryWish, gate, wishBy, wishOf, originIn}
 use Rattle.history.specs.Race.{unanswered, listed, wasAttempted, AllTried, holdsAddress, Condition, address-origin, mode-name, https-answered, address-held, WithHints, as-before, some-address, edition}
 use Rattle.history.specs.Edition.{Delays, Left, Rests, cameAt, All, Edition}
 use Rattle.history.proofs.Tables.{counts-some}
 use Rattle.history.proofs.Feeding.{Served}
-use Rattle.history.proofs.Opening.{Settled, opens, opens-address, opens-name, opens-https, some-imp, kind-answered, answer-came}
+use Rattle.history.proofs.Opening.{opens, opens-address, opens-name, opens-https, some-imp, kind-answered, answer-came}
 
 -- Searches
 
 -- the first place that passes is one
-place-at : {B : Type 0} (test : B → Bool) (i : ℕ) (l : List B) (d : B) (p : ℕ) → firstPlace test i l ≡ place.At p → (i ≤ p) × (p < i + length l) × (test (getD l (p - i) d) ≡ true)
+place-at : {B : Type 0} (test : B → Bool) (i : ℕ) (l : List B) (d : B) (p : ℕ) → firstPlace test i l ≡ place.At p
+    → (i ≤ p) × (p < i + length l) × (test (getD l (p - i) d) ≡ true)
 unfolding firstPlace
 place-at test i [] d p e = absurd (let z : _≡_ {A = ℕ} 0 1 = cc in omega arith)
 place-at test i (x ∷ l) d p e = by (test x) refl e (place-at test (i + 1) l d p)
@@ -67,7 +67,8 @@ unfolding starts some?
 open-some [] e = absurd (false≢true e)
 open-some (a ∷ l) e = by (isOpen (a .state)) e (open-some l)
   where
-    by : (b : Bool) → ltb 0 (length (cond b (a .started ∷ starts l) (starts l))) ≡ true → (ltb 0 (length (starts l)) ≡ true → some? isOpenAttempt l ≡ true)
+    by : (b : Bool) → ltb 0 (length (cond b (a .started ∷ starts l) (starts l))) ≡ true
+        → (ltb 0 (length (starts l)) ≡ true → some? isOpenAttempt l ≡ true)
         → cond b true (some? isOpenAttempt l) ≡ true
     by true e h = refl
     by false e h = h e
@@ -111,7 +112,8 @@ unfolding elapsed
 left-of delay moment.Never now e = absurd (let z = ltb-true 0 0 e in omega arith)
 left-of delay (moment.At t) now e = let z = ltb-true 0 (delay - (now - t)) e in (omega arith, refl)
 
-left-pending : (pending : Bool) (delay : ℕ) (m : Moment) (now : ℕ) → ltb 0 (cond pending (leftOf delay m now) 0) ≡ true → Left delay (momentOf m) now (cond pending (leftOf delay m now) 0)
+left-pending : (pending : Bool) (delay : ℕ) (m : Moment) (now : ℕ) → ltb 0 (cond pending (leftOf delay m now) 0) ≡ true
+    → Left delay (momentOf m) now (cond pending (leftOf delay m now) 0)
 left-pending true delay m now e = left-of delay m now e
 left-pending false delay m now e = absurd (let z = ltb-true 0 0 e in omega arith)
 
@@ -139,7 +141,8 @@ module _ (P : Wish → Type 0) where
   if-retry (next.New e) rest h k = h e refl
   if-retry next.Nothing rest h k = k
 
-  if-attempt : (x : Next) (rest : Wish) → ((e : Endpoint) → x ≡ next.New e → P (wish.Attempt e)) → (x ≡ next.Nothing → P rest) → P (attemptWish x rest)
+  if-attempt : (x : Next) (rest : Wish) → ((e : Endpoint) → x ≡ next.New e → P (wish.Attempt e)) → (x ≡ next.Nothing → P rest)
+      → P (attemptWish x rest)
   if-attempt (next.New e) rest h k = h e refl
   if-attempt next.Nothing rest h k = k refl
 
@@ -160,7 +163,8 @@ next-new test l e h = by (firstOf (λ x. not (test x)) l) refl h
     by none g h = absurd (let z : _≡_ {A = ℕ} 0 1 = cc in omega arith)
     by (some x) g h = let z : x ≡ e = cc in not-true (test e) (first-member (λ y. not (test y)) l e (g ∙ ap some z) .1)
 
-next-none : (test : Endpoint → Bool) (l : List Endpoint) → nextOf (firstOf (λ x. not (test x)) l) ≡ next.Nothing → (e : Endpoint) → List·Memᴰ e l → test e ≡ true
+next-none : (test : Endpoint → Bool) (l : List Endpoint) → nextOf (firstOf (λ x. not (test x)) l) ≡ next.Nothing → (e : Endpoint)
+    → List·Memᴰ e l → test e ≡ true
 next-none test l h e i = by (firstOf (λ x. not (test x)) l) refl h
   where
     by : (o : Option Endpoint) → firstOf (λ x. not (test x)) l ≡ o → nextOf o ≡ next.Nothing → test e ≡ true
@@ -235,7 +239,8 @@ module _ (m : Machine) (now : ℕ) where
       (opens-some i (rw a) (some-imp (λ x. hasAddress (x .answer)) isAnswered (asked (m .queries)) (λ x h. address-answered (x .answer) h) a))
 
   -- with hints too, as no service is held before an answer
-  hinted-answered : Served (m .services) (asked (m .queries)) → someAddress (asksOf (m .queries)) (hintsOf (m .services)) ≡ true → some? isAnswered (asked (m .queries)) ≡ true
+  hinted-answered : Served (m .services) (asked (m .queries)) → someAddress (asksOf (m .queries)) (hintsOf (m .services)) ≡ true
+      → some? isAnswered (asked (m .queries)) ≡ true
   unfolding asksOf hintsOf someAddress some?
   hinted-answered (inr h) e = counts-some isAnswered (asked (m .queries)) h
   hinted-answered (inl h) e =
@@ -285,7 +290,8 @@ module _ (m : Machine) (now : ℕ) where
       (λ e. if-so Why (ltb 0 (resolutionLeft (m .timing) (asksOf (m .queries)) now)) _ _ (λ f. left-pending (asksOf (m .queries) .pending) (m .timing .resolution) (asksOf (m .queries) .oldest) now f)
       (λ f. why-last (record { no-attempt = g; no-query = q; no-delay = e; no-wait = f })))
 
-  found-at : {B : Type 0} (test : B → Bool) (l : List B) (d : B) (p : ℕ) → firstPlace test 0 l ≡ place.At p → (p < length l) × (test (getD l p d) ≡ true)
+  found-at : {B : Type 0} (test : B → Bool) (l : List B) (d : B) (p : ℕ) → firstPlace test 0 l ≡ place.At p
+      → (p < length l) × (test (getD l p d) ≡ true)
   found-at test l d p e = let k = place-at test 0 l d p e in let z : p - 0 ≡ p = omega arith in (omega (arith, k .1), rw z at (k .2))
 
   gate-new : (b : Bool) (x : Next) (e : Endpoint) → cond b x next.Nothing ≡ next.New e → x ≡ next.New e

@@ -73,17 +73,19 @@ AllBut287 M = (before : List (Event (M .Input))) (us : List ℕ)
 
 -- Inputs go on: each adds two. It may come before a timer's end, and the call after it is free.
 unfoldable pub TwoForEach : Automaton → Type 0
-TwoForEach M = (h : List (Event (M .Input)))
-    → rising h
-    → keeps NoEarlier M (M .made) h
-    → length (answers M (M .made) h) ≤ 287 + 2 * inputsIn h + finalsIn (answers M (M .made) h)
+TwoForEach M = (before h : List (Event (M .Input)))
+    → rising (before ++ h)
+    → keeps NoEarlier M (runs M (M .made) before) h
+    → length (answers M (runs M (M .made) before) h) + 3 * asksIn (answers M (M .made) before)
+    ≤ 287 + 2 * inputsIn h + finalsIn (answers M (runs M (M .made) before) h)
 
--- A simulation, which goes on after a final answer with an input or not at all: at most 288 calls, and three for each input
+-- A simulation, which goes on after a final answer with an input or not at all: at most 288 calls, three for each input more, and three for
+-- each thing asked before less
 unfoldable pub Fuel : Automaton → Type 0
-Fuel M = (h : List (Event (M .Input)))
-    → rising h
-    → keeps Awaits M (M .made) h
-    → length (answers M (M .made) h) ≤ 288 + 3 * inputsIn h
+Fuel M = (before h : List (Event (M .Input)))
+    → rising (before ++ h)
+    → keeps Awaits M (runs M (M .made) before) h
+    → length (answers M (runs M (M .made) before) h) + 3 * asksIn (answers M (M .made) before) ≤ 288 + 3 * inputsIn h
 
 -- No endpoint is attempted that was attempted before
 unfoldable pub AttemptsNew : (M : Automaton) → (M .State → Endpoint → Bool) → Type 0

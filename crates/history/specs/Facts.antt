@@ -40,7 +40,8 @@ pub record Facts (M : Automaton) (S : View M) : Type 1 where
   pub past-next : (s : M .State) (t : ℕ) → Good s → Past s t → Past (M .next s t) t
   pub past-feed : (s : M .State) (t : ℕ) (i : M .Input) → Good s → Past s t → Past (M .feed s t i) t
   -- a timer is never 0, and ends where one of the two delays ends
-  pub timed : (s : M .State) (t d : ℕ) → Good s → Past s t → M .says s t ≡ output.Timer d → (0 < d) × ((t + d ≡ attemptEnd s) ⊎ (t + d ≡ resolutionEnd s))
+  pub timed : (s : M .State) (t d : ℕ) → Good s → Past s t → M .says s t ≡ output.Timer d
+      → (0 < d) × ((t + d ≡ attemptEnd s) ⊎ (t + d ≡ resolutionEnd s))
   -- what Waiting, Failed and an attempt rest on
   pub waits : (s : M .State) (t : ℕ) → Good s → M .says s t ≡ output.Waiting → S .unanswered s ≡ true
   pub tries : (s : M .State) (t : ℕ) → Good s → isRest (M .says s t) ≡ true → S .Condition s → S .AllTried s
