@@ -13,8 +13,8 @@ use Rattle.history.specs.History.{Automaton, Event, calls, callsOf, runs
 unfoldable pub AtMost95 : Automaton → Type 0
 AtMost95 M = (h : List (Event (M .Input))) → asksIn (answers M (M .made) h) ≤ 95
 
--- 2. If input stops, no reading in the whole history precedes an earlier one, and the host calls again exactly as each timer ends, all ends
--- being on the clock, then one of the first 288 answers is final
+-- 2. The clock never goes back over the whole history, there is no more input, and after a timer the host's next call is at its end, which
+-- is on the clock: then one of the first 288 answers is final
 
 -- the premise: after the events before, the host calls at the readings us
 pub record Premise (M : Automaton) (before : List (Event (M .Input))) (us : List ℕ) : Type 0 where
