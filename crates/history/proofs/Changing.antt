@@ -1,17 +1,17 @@
 -- The records and the attempts over one step: an ask changes them in one of four ways, an input in one of two. So 95 = 16 + 16 + 32 + 31.
 use Prim.Native.Nat.{ℕ, suc, _+_, _*_, _≤_, _<_}
 use mathlib.Core.Path.{_≡_, ap}
-use mathlib.Core.Bool.{Bool, true, false}
+use mathlib.Core.Bool.{Bool, true, false, not}
 use mathlib.Core.List.{List, [], _∷_, _++_}
 use native.Mathlib.Omega.{arith}
 use lib.ListN.{length, getD, set, length-append, length-set}
 use Rattle.records.specs.declared.queries.Refresh.{Refresh}
-use Rattle.records.specs.declared.queries.Refresh.the-variants.{Idle, InFlight, Done}
 use Rattle.records.specs.declared.queries.Query.{Query}
 use Rattle.state.specs.State.{hasWon}
 use Rattle.state.specs.declared.attempts.State.{State}
 use Rattle.state.specs.declared.attempts.State.the-variants as state
 use Rattle.state.specs.declared.attempts.Attempt.{Attempt}
+use Rattle.standing.specs.Standing.{idle, isCancelled}
 use Rattle.starting.specs.Surveys.{hasWonAttempt, isAnswered}
 use Rattle.history.specs.History.{one}
 use Rattle.history.specs.Edition.{cameAt, All}
@@ -19,18 +19,10 @@ use Rattle.history.proofs.Tables.{count, count-le, count-push, count-se
 
 -- whether a refresh was sent, and whether an attempt was cancelled
 abbrev pub isBegun : Refresh → Bool
-isBegun Idle = false
-isBegun (InFlight i) = true
-isBegun Done = true
+isBegun r = not (idle r)
 
 abbrev pub begun : Query → Bool
 begun q = isBegun (q .refresh)
-
-abbrev pub isCancelled : State → Bool
-isCancelled state.InProgress = false
-isCancelled state.Succeeded = false
-isCancelled state.Failed = false
-isCancelled state.Cancelled = true
 
 abbrev pub cancelled : Attempt → Bool
 cancelled a = isCancelled (a .state)

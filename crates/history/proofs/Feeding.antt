@@ -6,7 +6,7 @@ use mathlib.Core.Logic.{_⊎_, inr}
 use mathlib.Core.List.{List}
 use native.Mathlib.Omega.{arith}
 use lib.ListN.{length, getD, set}
-use lib.Seq.{length-take-le, getD-take}
+use lib.Seq.{getD-take}
 use Rattle.records.specs.Queries.{noQuery, answered}
 use Rattle.records.specs.declared.queries.Answer.{Answer}
 use Rattle.records.specs.declared.queries.Answer.the-variants as held
@@ -25,6 +25,7 @@ use Rattle.state.specs.declared.changes.InputChange.{InputChange}
 use Rattle.state.specs.declared.changes.InputChange.the-variants as change
 use Rattle.state.specs.declared.changes.Round.{Round}
 use Rattle.state.specs.declared.changes.Round.the-variants.{First, Second}
+use Rattle.standing.specs.Standing.{isCancelled}
 use Rattle.starting.specs.Surveys.{isAnswered}
 use Rattle.input.specs.Input.{isFailed, storedAt, withAnswer, recordAt, attemptAt, verdictOf}
 use Rattle.input.specs.Verdicts.{resultOf, Waits, refreshAfter, Answered, endOf, again, Ends, Ended}
@@ -41,9 +42,9 @@ use Rattle.machine.specs.Steps.{changeOf, judged}
 use Rattle.history.specs.History.{one}
 use Rattle.history.specs.Edition.{cameAt}
 use Rattle.history.proofs.Tables.{count, count-set, count-get, all-get}
-use Rattle.history.proofs.Changing.{Takes, nothing, answer, result, Fits, Tidy, begun, isBegun, isCancelled}
+use Rattle.history.proofs.Changing.{Takes, nothing, answer, result, Fits, Tidy, begun, isBegun}
 use Rattle.history.proofs.Putting.{query-old, attempt-old}
-use Rattle.history.proofs.Rooms.{Room}
+use Rattle.history.proofs.Rooms.{Room, many-asked, many-tried}
 
 -- services are held only once a record is answered
 abbrev pub Served : Services → List Query → Type 0
@@ -73,12 +74,6 @@ module _ (m : Machine) (now : ℕ) (o : Room (m .queries) (m .attempts)) (f : Fi
     pub takes : Takes now (asked (m .queries)) (tried (m .attempts)) (asked (queriesFed (m .queries) c)) (tried (attemptsFed (m .attempts) c))
     pub served : Served (m .services) (asked (m .queries)) → Served (servicesFed (m .services) c (b .services)) (asked (queriesFed (m .queries) c))
 
-  many-asked : length (asked (m .queries)) ≡ m .queries .count
-  many-asked = length-take-le (m .queries .count) (m .queries .list) (omega (arith, o .records, o .asked-in))
-
-  many-tried : length (tried (m .attempts)) ≡ m .attempts .count
-  many-tried = length-take-le (m .attempts .count) (m .attempts .list) (omega (arith, o .rooms, o .tried-in))
-
   unchanged : (b : Beside) → Taken change.Nothing b
   unchanged b = record { takes = nothing refl refl; served = λ s. s }
 
@@ -100,7 +95,7 @@ module _ (m : Machine) (now : ℕ) (o : Room (m .queries) (m .attempts)) (f : Fi
         in-count = omega (arith, h .within)
 
         in-use : p < length (asked (m .queries))
-        in-use = omega (arith, in-count, many-asked)
+        in-use = omega (arith, in-count, many-asked (m .queries) (m .attempts) o)
 
         same : getD (asked (m .queries)) p noQuery ≡ q
         same = getD-take (m .queries .count) (m .queries .list) p noQuery in-count
@@ -145,7 +140,7 @@ module _ (m : Machine) (now : ℕ) (o : Room (m .queries) (m .attempts)) (f : Fi
         in-count = omega (arith, h .within)
 
         in-use : p < length (tried (m .attempts))
-        in-use = omega (arith, in-count, many-tried)
+        in-use = omega (arith, in-count, many-tried (m .queries) (m .attempts) o)
 
         same : getD (tried (m .attempts)) p noAttempt ≡ a
         same = getD-take (m .attempts .count) (m .attempts .list) p noAttempt in-count
