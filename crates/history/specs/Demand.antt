@@ -7,7 +7,8 @@ use Rattle.history.specs.Claims.{AtMost95, By288, HostThere, WaitsForSom
 use Rattle.history.specs.Race.{race, unanswered, Condition, WithHints, AllTried, wasAttempted}
 
 pub record Demand3 (r : Rules) (t : Timing) (l : Alts) (n : Names) : Type 0 where
-  -- "An end": 95 = 16 records + 16 refreshes + 32 attempts + 31 cancels. No history reaches it: 94 is the most that was seen, 16 + 15 + 32 + 31.
+  -- 95 = 16 records + 16 refreshes + 32 attempts + 31 cancels. What can be reached is 94, with 15 refreshes; that isn't proved: with 16 records
+  -- one more is always wanted, and the Full that stands for it hides the last refresh.
   pub asks : AtMost95 (race r t l n)
   -- the 288th call; and the premise can be met
   pub ends : By288 (race r t l n)
