@@ -13,13 +13,13 @@ use Rattle.machine.specs.declared.wish.Wish.the-variants as wish
 use Rattle.machine.specs.declared.grant.Turn.{Turn}
 use Rattle.machine.specs.Output.{wishOf, granted, grantOf, queryGrant, attemptGrant}
 use Rattle.machine.specs.Steps.{turnOf, outputStep}
-use Rattle.history.specs.Claims.{isRest}
+use Rattle.history.specs.Claims.{isRest, LeavesElse}
 use Rattle.history.specs.Facts.{Facts}
 use Rattle.history.specs.Race.{race, raceBy, edition, view, WithHints, AllTried}
 use Rattle.history.specs.Demand.{Demand3, Beyond}
 use Rattle.history.proofs.Calling.{at-most-95, by-288, by-288-heeded, all-but-287, two-for-each, fuel, waits-for-something, tries-all, tries-when, attempts-new}
 use Rattle.history.proofs.Hosts.{host-there}
-use Rattle.history.proofs.Editions.{facts, good-own}
+use Rattle.history.proofs.Editions.{facts, good-own, heeds-64, leaves}
 use Rattle.history.proofs.Wishing.{is-edition, Why, why, Idle, idle-hinted}
 
 never : (b : Bool) (x y : Turn) → isRest (x .output) ≡ false → isRest (y .output) ≡ false → isRest (cond b x y .output) ≡ true → ⊥
@@ -62,13 +62,15 @@ module _ (r : Rules) (t : Timing) (l : Alts) (n : Names) where
   rest-idle m now wish.Waiting e y = y .1
 
   pub beyond : Beyond r t l n
-  unfolding outputStep turnOf
+  unfolding outputStep turnOf LeavesElse
   beyond =
       record {
         heeded = by-288-heeded (raceBy edition r t l n) (view edition r t l n) has-facts;
         all-but = all-but-287 (raceBy edition r t l n) (view edition r t l n) has-facts;
         two-each = two-for-each (raceBy edition r t l n) (view edition r t l n) has-facts;
         fuel = fuel (raceBy edition r t l n) (view edition r t l n) has-facts;
+        few = heeds-64 edition is-edition r t l n;
+        leaves = leaves;
         hinted =
             tries-when (raceBy edition r t l n) (view edition r t l n) has-facts WithHints AllTried
             (λ m now o e. idle-hinted m now (rest-idle m now (wishOf m now) e (why m now)) (good-own edition is-edition r t l n m o .served));

@@ -34,7 +34,7 @@ use Rattle.history.specs.Claims.{isRest}
 use Rattle.history.specs.Race.{unanswered, Condition, AllTried, wasAttempted}
 use Rattle.history.specs.Edition.{Delays, Left, Rests}
 use Rattle.history.proofs.Tables.{some-counts, all-get}
-use Rattle.history.proofs.Changing.{Asks, new-query, refresh, new-attempt, cancels, Fits, Tidy, isBegun}
+use Rattle.history.proofs.Changing.{Asks, new-query, refresh, new-attempt, cancels, Fits, Tidy}
 use Rattle.history.proofs.Putting.{query-old, query-new, attempt-old, attempt-new}
 use Rattle.history.proofs.Rooms.{Room, many-asked, many-tried}
 
@@ -45,7 +45,7 @@ open-state state.Succeeded e = absurd (false≢true e)
 open-state state.Failed e = absurd (false≢true e)
 open-state state.Cancelled e = absurd (false≢true e)
 
-due-idle : (stale : Bool) (r : Refresh) → isDue stale r ≡ true → (stale ≡ true) × (isBegun r ≡ false)
+due-idle : (stale : Bool) (r : Refresh) → isDue stale r ≡ true → (stale ≡ true) × (r ≡ Idle)
 due-idle stale Idle e = (e, refl)
 due-idle stale (InFlight i) e = absurd (false≢true e)
 due-idle stale Done e = absurd (false≢true e)
@@ -84,7 +84,7 @@ module _ (m : Machine) (now : ℕ) where
         if-room AsksBy (leb 16 (m .queries .count)) _ _ refl
         (λ g.
         let l = leb-false 16 (m .queries .count) g in
-        new-query (newQuery id k p) (omega (arith, many-asked (m .queries) (m .attempts) o)) refl (omega arith) (λ u. (refl, refl)) (query-new (m .queries) (m .queries .count) (newQuery id k p) refl l (o .records)) refl)
+        new-query (newQuery id k p) (omega (arith, many-asked (m .queries) (m .attempts) o)) refl refl (λ u. (refl, refl)) (query-new (m .queries) (m .queries .count) (newQuery id k p) refl l (o .records)) refl)
         e
 
     asks-attempt : (id : ℕ) (retry : Bool) (x : Endpoint) → isAsk (attemptGrant (m .attempts .count) id retry x now .output) ≡ true
@@ -112,7 +112,7 @@ module _ (m : Machine) (now : ℕ) where
         let k : p < m .queries .count = omega (arith, many-asked (m .queries) (m .attempts) o) in
         let e = getD-take (m .queries .count) (m .queries .list) p noQuery k in
         let d = due-idle (getD (asked (m .queries)) p noQuery .stale) (getD (asked (m .queries)) p noQuery .refresh) g in
-        refresh p (refreshed (getD (m .queries .list) p noQuery) id) noQuery l (d .1) refl (ap (λ x. x .answer) (sym e))
+        refresh p (refreshed (getD (m .queries .list) p noQuery) id) noQuery id l (d .1) refl (ap (λ x. x .answer) (sym e))
         (stale-tidy (getD (m .queries .list) p noQuery) id (rw e at (all-get Tidy (asked (m .queries)) p noQuery (f .tidy) l)) (ap (λ x. x .stale) (sym e) ∙ d .0))
         (query-old (m .queries) p (refreshed (getD (m .queries .list) p noQuery) id) k (o .asked-in)) refl
 
