@@ -1,9 +1,9 @@
 -- The calls over any edition have the facts: so demand 3 holds of each edition that shows what its wishes rest on.
 use Prim.Native.Nat.{ℕ, suc, _+_, _≤_, _<_}
-use mathlib.Core.Path.{_≡_, refl, sym, subst}
-use mathlib.Core.Bool.{Bool, true, false}
+use mathlib.Core.Path.{_≡_, refl, sym, ap, subst}
+use mathlib.Core.Bool.{Bool, true, false, false≢true}
 use mathlib.Core.Logic.{_⊎_, inl, inr}
-use mathlib.Core.List.{List}
+use mathlib.Core.List.{List, [], _∷_}
 use native.Mathlib.Omega.{arith}
 use Rattle.records.specs.Queries.{noQueries}
 use Rattle.records.specs.Services.{noServices}
@@ -14,17 +14,20 @@ use Rattle.records.specs.declared.rules.Alts.{Alts}
 use Rattle.records.specs.declared.queries.Query.{Query}
 use Rattle.state.specs.State.{made, asked, tried, noAttempts}
 use Rattle.state.specs.declared.Machine.{Machine}
+use Rattle.state.specs.declared.changes.InputChange.{InputChange}
+use Rattle.state.specs.declared.changes.InputChange.the-variants as change
 use Rattle.starting.specs.Surveys.{isAnswered}
 use Rattle.machine.specs.declared.wish.Wish.{Wish}
 use Rattle.machine.specs.declared.grant.Output.{Output}
 use Rattle.machine.specs.declared.grant.Output.the-variants as output
 use Rattle.machine.specs.Steps.{called, changeOf, judged, fed, inputStep}
-use Rattle.history.specs.History.{isAsk}
+use Rattle.history.specs.History.{isAsk, Event, input, call, one, runs, heededIn}
+use Rattle.history.specs.Claims.{Heeds64}
 use Rattle.history.specs.Facts.{Facts}
-use Rattle.history.specs.Race.{Fed, raceBy, view}
+use Rattle.history.specs.Race.{Fed, changes, heeds, raceBy, view}
 use Rattle.history.specs.Edition.{Edition, Left, All}
 use Rattle.history.proofs.Tables.{count, all-imp}
-use Rattle.history.proofs.Changing.{Fits, Held, askedOf, asked-most, asks-one, asks-fit, asks-held, asks-answered, takes-none, takes-fit, takes-held}
+use Rattle.history.proofs.Changing.{Fits, Held, askedOf, asked-most, asks-one, asks-fit, asks-held, asks-answered, takes-none, takes-fit, takes-held, heardOf, heard-most, asks-unheard}
 use Rattle.history.proofs.Rooms.{Room, made-room, called-room, fed-room}
 use Rattle.history.proofs.Granting.{given, asks-by, still-by, Stands, stands-by, rest-stands}
 use Rattle.history.proofs.Feeding.{Served, taken}
@@ -40,6 +43,9 @@ Past m t = Held t (asked (m .queries)) (tried (m .attempts))
 
 abbrev asks : Machine → ℕ
 asks m = askedOf (asked (m .queries)) (tried (m .attempts))
+
+abbrev heard : Machine → ℕ
+heard m = heardOf (asked (m .queries)) (tried (m .attempts))
 
 module _ (r : Rules) (t : Timing) (l : Alts) (n : Names) where
   made-own : Own (made r t l n)
@@ -73,6 +79,10 @@ module _ (m : Machine) (now : ℕ) (i : Fed) (o : Own m) where
   fed-asks : asks next ≡ asks m
   unfolding inputStep
   fed-asks = takes-none now _ _ _ _ (taken m now (o .room) (o .fits) (i .input) (i .beside) .takes)
+
+  fed-heard : heard next ≡ one (heeds m now i) + heard m
+  unfolding inputStep heeds
+  fed-heard = taken m now (o .room) (o .fits) (i .input) (i .beside) .hears
 
   fed-past : Past m now → Past next now
   unfolding inputStep
@@ -118,6 +128,10 @@ module _ (wish : Machine → ℕ → Wish) (E : Edition wish) (m : Machine) (now
   past-by true e p = asks-held now _ _ _ _ (asks-by m now (o .room) (o .fits) (E .delays) (wish m now) (E .rests m now) e) p
   past-by false e p = subst (λ x. Past x now) (sym (still e)) p
 
+  heard-by : (b : Bool) → isAsk said ≡ b → heard goes ≡ heard m
+  heard-by true e = asks-unheard now _ _ _ _ (asks-by m now (o .room) (o .fits) (E .delays) (wish m now) (E .rests m now) e)
+  heard-by false e = ap heard (still e)
+
   stands : Stands m now (E .delays) said
   stands = stands-by m now (E .delays) (wish m now) (E .rests m now)
 
@@ -161,3 +175,39 @@ pub good-own : (wish : Machine → ℕ → Wish) (E : Edition wish) (r : Rules) 
     → facts wish E r t l n .Good m → Own m
 unfolding facts
 good-own wish E r t l n m o = o
+
+-- Inputs that are heeded
+
+module _ (wish : Machine → ℕ → Wish) (E : Edition wish) (r : Rules) (t : Timing) (l : Alts) (n : Names) where
+  heard-runs : (m : Machine) (h : List (Event Fed)) → Own m → heard (runs (raceBy wish r t l n) m h) ≡ heededIn (raceBy wish r t l n) heeds m h + heard m
+  unfolding runs heededIn
+  heard-runs m [] o = omega arith
+  heard-runs m (input now i ∷ h) o = omega (arith, heard-runs (next m now i o) h (fed-own m now i o), fed-heard m now i o)
+  heard-runs m (call now ∷ h) o =
+      let b = isAsk (said wish E m now o) in
+      omega (arith, heard-runs (goes wish E m now o) h (own-by wish E m now o b refl), heard-by wish E m now o b refl)
+
+  own-runs : (m : Machine) (h : List (Event Fed)) → Own m → Own (runs (raceBy wish r t l n) m h)
+  unfolding runs
+  own-runs m [] o = o
+  own-runs m (input now i ∷ h) o = own-runs (next m now i o) h (fed-own m now i o)
+  own-runs m (call now ∷ h) o = own-runs (goes wish E m now o) h (own-by wish E m now o (isAsk (said wish E m now o)) refl)
+
+  pub heeds-64 : Heeds64 (raceBy wish r t l n) heeds
+  unfolding Heeds64
+  heeds-64 h =
+      let o = made-own r t l n in
+      omega (arith, heard-runs (made r t l n) h o, heard-most _ _ (own-runs (made r t l n) h o .fits))
+
+-- one that changes nothing leaves the machine
+pub leaves : (m : Machine) (now : ℕ) (i : Fed) → heeds m now i ≡ false → inputStep m now (i .input) (i .beside) .machine ≡ m
+unfolding inputStep heeds
+leaves m now i e = by (changeOf (judged m now (i .input))) e
+  where
+    by : (c : InputChange) → changes c ≡ false → fed m c (i .beside) ≡ m
+    by change.Nothing e = refl
+    by (change.Ends p a) e = absurd (false≢true (sym e))
+    by (change.Retries p a r) e = absurd (false≢true (sym e))
+    by (change.Holds p q) e = absurd (false≢true (sym e))
+    by (change.Empties p q) e = absurd (false≢true (sym e))
+    by (change.Offers p q round) e = absurd (false≢true (sym e))

@@ -6,7 +6,7 @@ use mathlib.Core.Logic.{_⊎_, inl, inr}
 use native.Mathlib.Omega.{arith}
 use lib.Dec.{leb}
 use lib.ListN.{length, getD}
-use lib.Seq.{length-take-le, getD-take}
+use lib.Seq.{getD-take}
 use borrow.Author.Tests.{leb-false}
 use Rattle.pacing.specs.Ids.{nextId}
 use Rattle.records.specs.Lists.{some?}
@@ -34,9 +34,9 @@ use Rattle.history.specs.Claims.{isRest}
 use Rattle.history.specs.Race.{unanswered, Condition, AllTried, wasAttempted}
 use Rattle.history.specs.Edition.{Delays, Left, Rests}
 use Rattle.history.proofs.Tables.{some-counts, all-get}
-use Rattle.history.proofs.Changing.{Asks, new-query, refresh, new-attempt, cancels, Fits, Tidy, isBegun}
+use Rattle.history.proofs.Changing.{Asks, new-query, refresh, new-attempt, cancels, Fits, Tidy}
 use Rattle.history.proofs.Putting.{query-old, query-new, attempt-old, attempt-new}
-use Rattle.history.proofs.Rooms.{Room}
+use Rattle.history.proofs.Rooms.{Room, many-asked, many-tried}
 
 -- what the tests say of a record and of an attempt
 open-state : (s : State) → isOpen s ≡ true → s ≡ state.InProgress
@@ -45,7 +45,7 @@ open-state state.Succeeded e = absurd (false≢true e)
 open-state state.Failed e = absurd (false≢true e)
 open-state state.Cancelled e = absurd (false≢true e)
 
-due-idle : (stale : Bool) (r : Refresh) → isDue stale r ≡ true → (stale ≡ true) × (isBegun r ≡ false)
+due-idle : (stale : Bool) (r : Refresh) → isDue stale r ≡ true → (stale ≡ true) × (r ≡ Idle)
 due-idle stale Idle e = (e, refl)
 due-idle stale (InFlight i) e = absurd (false≢true e)
 due-idle stale Done e = absurd (false≢true e)
@@ -77,12 +77,6 @@ module _ (m : Machine) (now : ℕ) where
   AsksBy t = Asks now (asked (m .queries)) (tried (m .attempts)) (asked (called m (t .change) .queries)) (tried (called m (t .change) .attempts))
 
   module _ (o : Room (m .queries) (m .attempts)) (f : Fits (asked (m .queries)) (tried (m .attempts))) where
-    many-asked : length (asked (m .queries)) ≡ m .queries .count
-    many-asked = length-take-le (m .queries .count) (m .queries .list) (omega (arith, o .records, o .asked-in))
-
-    many-tried : length (tried (m .attempts)) ≡ m .attempts .count
-    many-tried = length-take-le (m .attempts .count) (m .attempts .list) (omega (arith, o .rooms, o .tried-in))
-
     asks-query : (id : ℕ) (k : Kind) (p : ℕ) → isAsk (queryGrant (m .queries .count) id k p .output) ≡ true
         → AsksBy (queryGrant (m .queries .count) id k p)
     unfolding queryGrant
@@ -90,7 +84,7 @@ module _ (m : Machine) (now : ℕ) where
         if-room AsksBy (leb 16 (m .queries .count)) _ _ refl
         (λ g.
         let l = leb-false 16 (m .queries .count) g in
-        new-query (newQuery id k p) (omega (arith, many-asked)) refl (omega arith) (λ u. (refl, refl)) (query-new (m .queries) (newQuery id k p) l (o .records)) refl)
+        new-query (newQuery id k p) (omega (arith, many-asked (m .queries) (m .attempts) o)) refl refl (λ u. (refl, refl)) (query-new (m .queries) (m .queries .count) (newQuery id k p) refl l (o .records)) refl)
         e
 
     asks-attempt : (id : ℕ) (retry : Bool) (x : Endpoint) → isAsk (attemptGrant (m .attempts .count) id retry x now .output) ≡ true
@@ -100,14 +94,14 @@ module _ (m : Machine) (now : ℕ) where
         if-room AsksBy (leb 32 (m .attempts .count)) _ _ refl
         (λ g.
         let l = leb-false 32 (m .attempts .count) g in
-        new-attempt (newAttempt id x now retry) (omega (arith, many-tried)) refl (omega arith) refl (attempt-new (m .attempts) (newAttempt id x now retry) l (o .rooms)))
+        new-attempt (newAttempt id x now retry) (omega (arith, many-tried (m .queries) (m .attempts) o)) refl (omega arith) refl (attempt-new (m .attempts) (m .attempts .count) (newAttempt id x now retry) refl l (o .rooms)))
         e
 
     asks-cancel : (p : ℕ) → p < length (tried (m .attempts)) → isOpenAttempt (getD (tried (m .attempts)) p noAttempt) ≡ true
         → some? hasWonAttempt (tried (m .attempts)) ≡ true
         → AsksBy (cancelGrant (getD (m .attempts .list) p noAttempt) p)
     asks-cancel p l g h =
-        let k : p < m .attempts .count = omega (arith, many-tried) in
+        let k : p < m .attempts .count = omega (arith, many-tried (m .queries) (m .attempts) o) in
         cancels p (withState (getD (m .attempts .list) p noAttempt) state.Cancelled) noAttempt l (some-counts hasWonAttempt (tried (m .attempts)) h) (open-state _ g) refl
         (ap (λ x. x .started) (sym (getD-take (m .attempts .count) (m .attempts .list) p noAttempt k))) refl
         (attempt-old (m .attempts) p (withState (getD (m .attempts .list) p noAttempt) state.Cancelled) k (o .tried-in))
@@ -115,10 +109,10 @@ module _ (m : Machine) (now : ℕ) where
     asks-refresh : (id p : ℕ) → p < length (asked (m .queries)) → isDueQuery (getD (asked (m .queries)) p noQuery) ≡ true
         → AsksBy (refreshGrant (getD (m .queries .list) p noQuery) id p)
     asks-refresh id p l g =
-        let k : p < m .queries .count = omega (arith, many-asked) in
+        let k : p < m .queries .count = omega (arith, many-asked (m .queries) (m .attempts) o) in
         let e = getD-take (m .queries .count) (m .queries .list) p noQuery k in
         let d = due-idle (getD (asked (m .queries)) p noQuery .stale) (getD (asked (m .queries)) p noQuery .refresh) g in
-        refresh p (refreshed (getD (m .queries .list) p noQuery) id) noQuery l (d .1) refl (ap (λ x. x .answer) (sym e))
+        refresh p (refreshed (getD (m .queries .list) p noQuery) id) noQuery id l (d .1) refl (ap (λ x. x .answer) (sym e))
         (stale-tidy (getD (m .queries .list) p noQuery) id (rw e at (all-get Tidy (asked (m .queries)) p noQuery (f .tidy) l)) (ap (λ x. x .stale) (sym e) ∙ d .0))
         (query-old (m .queries) p (refreshed (getD (m .queries .list) p noQuery) id) k (o .asked-in)) refl
 

@@ -47,47 +47,30 @@ module _ (n : Names) (b : Beside) where
   abbrev heard : ℕ → Machine
   heard t = runs M (M .made) (asksThenHears b t)
 
-  -- the answers: two queries, and once the clock is back, the whole delay again and again
-  pub ten-again : answers M (M .made) (asksThenHears b 1_000_000 ++ calls (0 ∷ 10 ∷ []))
-      ≡ output.Query 0 Https true 0 ∷ output.Query 1 Aaaa true 0 ∷ output.Timer 10 ∷ output.Timer 10 ∷ []
-  unfolding answers made outputStep turnOf wishOf wishBy granted grantOf queryGrant noQueries noAttempts noServices noRetries noAlts
-      triesOf asksOf hintsOf some? starts latestOf firstPlace answerTimes oldestOf nextRetry retryEndpoints firstOf gate attemptLeft
-      mayStart moveOnWithoutTimeout moveOnWithTimeout someAddress nextQuery wantedBy originWanted missing targetsWanted altsWanted
-      firstWanted httpsPlace isPrefixed putQuery inputStep judged answerVerdict askedOf askedFrom firstAnswer timerWish resolutionLeft
-      elapsed
-  ten-again = refl
+  -- what comes of computing: two queries and, once the clock is back, the whole delay again and again, all ends on the clock; and likewise for
+  -- a host that calls at 0 for ever
+  pub record Told : Type 0 where
+    pub ten-again : answers M (M .made) (asksThenHears b 1_000_000 ++ calls (0 ∷ 10 ∷ []))
+        ≡ output.Query 0 Https true 0 ∷ output.Query 1 Aaaa true 0 ∷ output.Timer 10 ∷ output.Timer 10 ∷ []
+    pub none-back : finalsIn (take 288 (answers M (heard 1_000_000) (calls (punctual M (heard 1_000_000) 0 288)))) ≡ 0
+    pub on-time : isOnClock M (heard 1_000_000) 0 288 ≡ true
+    pub none-early : finalsIn (take 288 (answers M (heard 0) (calls (replicate 288 0)))) ≡ 0
 
-  none-back : finalsIn (take 288 (answers M (heard 1_000_000) (calls (punctual M (heard 1_000_000) 0 288)))) ≡ 0
-  unfolding finalsIn punctual runs answers
-      made outputStep turnOf wishOf wishBy granted grantOf queryGrant noQueries noAttempts noServices noRetries noAlts triesOf asksOf
-      hintsOf some? starts latestOf firstPlace answerTimes oldestOf nextRetry retryEndpoints firstOf gate attemptLeft mayStart
-      moveOnWithoutTimeout moveOnWithTimeout someAddress nextQuery wantedBy originWanted missing targetsWanted altsWanted firstWanted
-      httpsPlace isPrefixed putQuery inputStep judged answerVerdict askedOf askedFrom firstAnswer timerWish resolutionLeft elapsed
-  none-back = refl
-
-  clock-back : isOnClock M (heard 1_000_000) 0 288 ≡ true
-  unfolding isOnClock runs made outputStep turnOf wishOf wishBy granted grantOf queryGrant noQueries noAttempts noServices noRetries noAlts
-      triesOf asksOf hintsOf some? starts latestOf firstPlace answerTimes oldestOf nextRetry retryEndpoints firstOf gate attemptLeft
-      mayStart moveOnWithoutTimeout moveOnWithTimeout someAddress nextQuery wantedBy originWanted missing targetsWanted altsWanted
-      firstWanted httpsPlace isPrefixed putQuery inputStep judged answerVerdict askedOf askedFrom firstAnswer timerWish resolutionLeft
-      elapsed
-  clock-back = refl
+  pub told : Told
+  unfolding finalsIn answers runs punctual isOnClock made outputStep turnOf wishOf wishBy granted grantOf queryGrant noQueries noAttempts noServices
+      noRetries noAlts triesOf asksOf hintsOf some? starts latestOf firstPlace answerTimes oldestOf nextRetry retryEndpoints firstOf gate
+      attemptLeft mayStart moveOnWithoutTimeout moveOnWithTimeout someAddress nextQuery wantedBy originWanted missing targetsWanted altsWanted
+      firstWanted httpsPlace isPrefixed putQuery inputStep judged answerVerdict askedOf askedFrom firstAnswer timerWish resolutionLeft elapsed
+  told = record { ten-again = refl; none-back = refl; on-time = refl; none-early = refl }
 
   pub never-back-needed : ClockBack M → ⊥
   unfolding ClockBack
   never-back-needed h =
       let s = heard 1_000_000 in
-      let z = h (asksThenHears b 1_000_000) (punctual M s 0 288) (rises M s 0 288) (exact M s 0 288 (computed-on-clock M s 0 288 clock-back)) (omega (arith, many M s 0 288)) in
-      let y = none-back in
+      let z = h (asksThenHears b 1_000_000) (punctual M s 0 288) (rises M s 0 288)
+      (exact M s 0 288 (computed-on-clock M s 0 288 (told .on-time))) (omega (arith, many M s 0 288)) in
+      let y = told .none-back in
       omega arith
-
-  none-early : finalsIn (take 288 (answers M (heard 0) (calls (replicate 288 0)))) ≡ 0
-  unfolding finalsIn runs answers made outputStep turnOf wishOf wishBy granted grantOf queryGrant noQueries noAttempts noServices noRetries
-      noAlts triesOf asksOf hintsOf some? starts latestOf firstPlace answerTimes oldestOf nextRetry retryEndpoints firstOf gate attemptLeft
-      mayStart moveOnWithoutTimeout moveOnWithTimeout someAddress nextQuery wantedBy originWanted missing targetsWanted altsWanted
-      firstWanted httpsPlace isPrefixed putQuery inputStep judged answerVerdict askedOf askedFrom firstAnswer timerWish resolutionLeft
-      elapsed
-  none-early = refl
 
   risen : rising (asksThenHears b 0 ++ calls (replicate 288 0))
   unfolding rising
@@ -97,5 +80,5 @@ module _ (n : Names) (b : Beside) where
   unfolding AnyTime
   timers-needed h =
       let z = h (asksThenHears b 0) (replicate 288 0) risen (omega (arith, length-replicate {A = ℕ} 288 0)) in
-      let y = none-early in
+      let y = told .none-early in
       omega arith

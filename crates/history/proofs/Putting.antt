@@ -1,6 +1,6 @@
 -- A record put into its table: at the first free place it is one more, at a place in use it takes the old one's.
 use Prim.Native.Nat.{ℕ, _+_, _≤_, _<_}
-use mathlib.Core.Path.{_≡_, refl}
+use mathlib.Core.Path.{_≡_, refl, ap, _∙_}
 use mathlib.Core.Bool.{Bool, true, false, cond}
 use mathlib.Core.List.{List, [], _∷_, _++_}
 use native.Mathlib.Numerals.{add-one}
@@ -24,61 +24,68 @@ counted-in n p r h k = by (ltb p n)
     by true = h
     by false = omega arith
 
-module _ {A : Type 0} (l : List A) (x : A) where
-  old : (n p : ℕ) → p < n → take (counted n p) (set l p x) ≡ set (take n l) p x
-  old n p h = rw (lt-ltb p n h) (take-set-lt n l p x h)
+-- a table t of any kind, with a count and a list in a room of r; u has x at place p
+module _ {T A : Type 0} (number : T → ℕ) (list : T → List A) (r : ℕ) (t u : T) (p : ℕ) (x : A) (e : number u ≡ counted (number t) p) (f : list u ≡ set (list t) p x) where
+  abbrev used : T → List A
+  used v = take (number v) (list v)
 
-  new : (n : ℕ) → n < length l → take (counted n n) (set l n x) ≡ take n l ++ (x ∷ [])
-  new n h = rw (le-ltb n n (omega arith), add-one n) (take-suc-set l n x h)
+  put-old : p < number t → number t ≤ r → used (cond (ltb p r) u t) ≡ set (used t) p x
+  put-old h k = rw (lt-ltb p r (omega arith), e, f, lt-ltb p (number t) h) (take-set-lt (number t) (list t) p x h)
 
--- Queries
+  put-new : p ≡ number t → p < r → length (list t) ≡ r → used (cond (ltb p r) u t) ≡ used t ++ (x ∷ [])
+  put-new h k l =
+      rw (lt-ltb p r k, e, f, ← h, le-ltb p p (omega arith), add-one p) (take-suc-set (list t) p x (omega (arith, l)))
 
-pub query-old : (q : Queries) (p : ℕ) (x : Query) → p < q .count → q .count ≤ 16 → asked (putQuery q p x) ≡ set (asked q) p x
-unfolding putQuery
-query-old q p x h k = rw (lt-ltb p 16 (omega arith)) (old (q .list) x (q .count) p h)
+  put-room : length (list (cond (ltb p r) u t)) ≡ length (list t)
+  put-room = by (ltb p r)
+    where
+      by : (b : Bool) → length (list (cond b u t)) ≡ length (list t)
+      by true = ap length f ∙ length-set (list t) p x
+      by false = refl
 
-pub query-new : (q : Queries) (x : Query) → q .count < 16 → length (q .list) ≡ 16 → asked (putQuery q (q .count) x) ≡ asked q ++ (x ∷ [])
-unfolding putQuery
-query-new q x h k = rw (lt-ltb (q .count) 16 h) (new (q .list) x (q .count) (omega (arith, k)))
+  put-count : number t ≤ r → number (cond (ltb p r) u t) ≤ r
+  put-count h = by (ltb p r) refl
+    where
+      by : (b : Bool) → ltb p r ≡ b → number (cond b u t) ≤ r
+      by true g = omega (arith, e, counted-in (number t) p r h (ltb-true p r g))
+      by false g = h
 
-pub query-room : (q : Queries) (p : ℕ) (x : Query) → length (putQuery q p x .list) ≡ length (q .list)
-unfolding putQuery
-query-room q p x = by (ltb p 16)
-  where
-    by : (b : Bool) → length (cond b (record { count = counted (q .count) p; list = set (q .list) p x }) q .list) ≡ length (q .list)
-    by true = length-set (q .list) p x
-    by false = refl
+module _ (q : Queries) (p : ℕ) (x : Query) where
+  abbrev asking : Queries
+  asking = record { count = counted (q .count) p; list = set (q .list) p x }
 
-pub query-count : (q : Queries) (p : ℕ) (x : Query) → q .count ≤ 16 → putQuery q p x .count ≤ 16
-unfolding putQuery
-query-count q p x h = by (ltb p 16) refl
-  where
-    by : (b : Bool) → ltb p 16 ≡ b → cond b (record { count = counted (q .count) p; list = set (q .list) p x }) q .count ≤ 16
-    by true e = counted-in (q .count) p 16 h (ltb-true p 16 e)
-    by false e = h
+  pub query-old : p < q .count → q .count ≤ 16 → asked (putQuery q p x) ≡ set (asked q) p x
+  unfolding putQuery
+  query-old = put-old (λ v. v .count) (λ v. v .list) 16 q asking p x refl refl
 
--- Attempts
+  pub query-new : p ≡ q .count → p < 16 → length (q .list) ≡ 16 → asked (putQuery q p x) ≡ asked q ++ (x ∷ [])
+  unfolding putQuery
+  query-new = put-new (λ v. v .count) (λ v. v .list) 16 q asking p x refl refl
 
-pub attempt-old : (a : Attempts) (p : ℕ) (x : Attempt) → p < a .count → a .count ≤ 32 → tried (putAttempt a p x) ≡ set (tried a) p x
-unfolding putAttempt
-attempt-old a p x h k = rw (lt-ltb p 32 (omega arith)) (old (a .list) x (a .count) p h)
+  pub query-room : length (putQuery q p x .list) ≡ length (q .list)
+  unfolding putQuery
+  query-room = put-room (λ v. v .count) (λ v. v .list) 16 q asking p x refl refl
 
-pub attempt-new : (a : Attempts) (x : Attempt) → a .count < 32 → length (a .list) ≡ 32 → tried (putAttempt a (a .count) x) ≡ tried a ++ (x ∷ [])
-unfolding putAttempt
-attempt-new a x h k = rw (lt-ltb (a .count) 32 h) (new (a .list) x (a .count) (omega (arith, k)))
+  pub query-count : q .count ≤ 16 → putQuery q p x .count ≤ 16
+  unfolding putQuery
+  query-count = put-count (λ v. v .count) (λ v. v .list) 16 q asking p x refl refl
 
-pub attempt-room : (a : Attempts) (p : ℕ) (x : Attempt) → length (putAttempt a p x .list) ≡ length (a .list)
-unfolding putAttempt
-attempt-room a p x = by (ltb p 32)
-  where
-    by : (b : Bool) → length (cond b (record { count = counted (a .count) p; list = set (a .list) p x }) a .list) ≡ length (a .list)
-    by true = length-set (a .list) p x
-    by false = refl
+module _ (a : Attempts) (p : ℕ) (x : Attempt) where
+  abbrev trying : Attempts
+  trying = record { count = counted (a .count) p; list = set (a .list) p x }
 
-pub attempt-count : (a : Attempts) (p : ℕ) (x : Attempt) → a .count ≤ 32 → putAttempt a p x .count ≤ 32
-unfolding putAttempt
-attempt-count a p x h = by (ltb p 32) refl
-  where
-    by : (b : Bool) → ltb p 32 ≡ b → cond b (record { count = counted (a .count) p; list = set (a .list) p x }) a .count ≤ 32
-    by true e = counted-in (a .count) p 32 h (ltb-true p 32 e)
-    by false e = h
+  pub attempt-old : p < a .count → a .count ≤ 32 → tried (putAttempt a p x) ≡ set (tried a) p x
+  unfolding putAttempt
+  attempt-old = put-old (λ v. v .count) (λ v. v .list) 32 a trying p x refl refl
+
+  pub attempt-new : p ≡ a .count → p < 32 → length (a .list) ≡ 32 → tried (putAttempt a p x) ≡ tried a ++ (x ∷ [])
+  unfolding putAttempt
+  attempt-new = put-new (λ v. v .count) (λ v. v .list) 32 a trying p x refl refl
+
+  pub attempt-room : length (putAttempt a p x .list) ≡ length (a .list)
+  unfolding putAttempt
+  attempt-room = put-room (λ v. v .count) (λ v. v .list) 32 a trying p x refl refl
+
+  pub attempt-count : a .count ≤ 32 → putAttempt a p x .count ≤ 32
+  unfolding putAttempt
+  attempt-count = put-count (λ v. v .count) (λ v. v .list) 32 a trying p x refl refl

@@ -3,6 +3,7 @@ use Prim.Native.Nat.{ℕ, _≤_}
 use mathlib.Core.Path.{_≡_, refl, _∙_}
 use native.Mathlib.Omega.{arith}
 use lib.ListN.{length}
+use lib.Seq.{length-take-le}
 use Rattle.records.specs.Queries.{noQueries}
 use Rattle.records.specs.declared.names.Names.{Names}
 use Rattle.records.specs.declared.rules.Rules.{Rules}
@@ -10,7 +11,7 @@ use Rattle.records.specs.declared.rules.Timing.{Timing}
 use Rattle.records.specs.declared.rules.Alts.{Alts}
 use Rattle.records.specs.declared.queries.Query.{Query}
 use Rattle.records.specs.declared.queries.Queries.{Queries}
-use Rattle.state.specs.State.{made, noAttempts}
+use Rattle.state.specs.State.{made, asked, tried, noAttempts}
 use Rattle.state.specs.declared.Machine.{Machine}
 use Rattle.state.specs.declared.attempts.Attempt.{Attempt}
 use Rattle.state.specs.declared.attempts.Attempts.{Attempts}
@@ -31,6 +32,12 @@ pub record Room (q : Queries) (a : Attempts) : Type 0 where
   pub tried-in : a .count ≤ 32
 
 module _ (q : Queries) (a : Attempts) (o : Room q a) where
+  pub many-asked : length (asked q) ≡ q .count
+  many-asked = length-take-le (q .count) (q .list) (omega (arith, o .records, o .asked-in))
+
+  pub many-tried : length (tried a) ≡ a .count
+  many-tried = length-take-le (a .count) (a .list) (omega (arith, o .rooms, o .tried-in))
+
   query-in : (p : ℕ) (x : Query) → Room (putQuery q p x) a
   query-in p x =
       record { records = query-room q p x ∙ o .records; asked-in = query-count q p x (o .asked-in); rooms = o .rooms; tried-in = o .tried-in }

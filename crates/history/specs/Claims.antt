@@ -7,7 +7,7 @@ use lib.ListN.{length, take}
 use Rattle.records.specs.declared.endpoints.Endpoint.{Endpoint}
 use Rattle.machine.specs.declared.grant.Output.{Output}
 use Rattle.machine.specs.declared.grant.Output.the-variants as output
-use Rattle.history.specs.History.{Automaton, Event, calls, callsOf, runs, answers, asksIn, finalsIn, inputsIn, rising, Exactly, NoEarlier, Awaits, keeps, atCalls, unheeded, punctual, onClock}
+use Rattle.history.specs.History.{Automaton, Event, calls, callsOf, runs, answers, asksIn, finalsIn, inputsIn, rising, Exactly, NoEarlier, Awaits, keeps, atCalls, unheeded, heededIn, punctual, onClock}
 
 -- 1. Over any history, and any clock, it asks for at most 95 queries, attempts and cancels together
 unfoldable pub AtMost95 : Automaton → Type 0
@@ -86,6 +86,14 @@ Fuel M = (before h : List (Event (M .Input)))
     → rising (before ++ h)
     → keeps Awaits M (runs M (M .made) before) h
     → length (answers M (runs M (M .made) before) h) + 3 * asksIn (answers M (M .made) before) ≤ 288 + 3 * inputsIn h
+
+-- Over any history at most 64 inputs are heeded, and any other leaves the machine as it is. So a simulation in which each is makes at most
+-- 480 calls, 288 + 3 * 64.
+unfoldable pub Heeds64 : (M : Automaton) → (M .State → ℕ → M .Input → Bool) → Type 0
+Heeds64 M heeds = (h : List (Event (M .Input))) → heededIn M heeds (M .made) h ≤ 64
+
+unfoldable pub LeavesElse : (M : Automaton) → (M .State → ℕ → M .Input → Bool) → Type 0
+LeavesElse M heeds = (s : M .State) (t : ℕ) (i : M .Input) → heeds s t i ≡ false → M .feed s t i ≡ s
 
 -- No endpoint is attempted that was attempted before
 unfoldable pub AttemptsNew : (M : Automaton) → (M .State → Endpoint → Bool) → Type 0

@@ -1,26 +1,43 @@
--- Demand 3 of Braidhatch, in its order: of every configuration, whatever the inputs bring.
+-- Demand 3 in its order, of any machine and of Braidhatch; and what is stronger.
 use Rattle.records.specs.declared.names.Names.{Names}
 use Rattle.records.specs.declared.rules.Rules.{Rules}
 use Rattle.records.specs.declared.rules.Timing.{Timing}
 use Rattle.records.specs.declared.rules.Alts.{Alts}
-use Rattle.history.specs.Claims.{AtMost95, By288, HostThere, WaitsForSomething, TriesAll, By288Heeded, AllBut287, TwoForEach, Fuel, AttemptsNew}
-use Rattle.history.specs.Race.{race, unanswered, Condition, WithHints, AllTried, wasAttempted}
+use Rattle.history.specs.History.{Automaton}
+use Rattle.history.specs.Claims.{AtMost95, By288, HostThere, WaitsForSomething, TriesAll, By288Heeded, AllBut287, TwoForEach, Fuel, Heeds64, LeavesElse, AttemptsNew}
+use Rattle.history.specs.Facts.{View}
+use Rattle.history.specs.Race.{race, heeds, unanswered, Condition, WithHints, AllTried, wasAttempted}
 
-pub record Demand3 (r : Rules) (t : Timing) (l : Alts) (n : Names) : Type 0 where
-  -- "An end": 95 = 16 records + 16 refreshes + 32 attempts + 31 cancels. No history reaches it: 94 is the most that was seen, 16 + 15 + 32 + 31.
-  pub asks : AtMost95 (race r t l n)
-  -- the 288th call; and the premise can be met
-  pub ends : By288 (race r t l n)
-  pub host : HostThere (race r t l n)
-  -- Waiting, and the last sentence
-  pub waits : WaitsForSomething (race r t l n) unanswered
-  pub tries : TriesAll (race r t l n) Condition AllTried
+pub record Demand (M : Automaton) (S : View M) : Type 0 where
+  pub asks : AtMost95 M
+  -- and the premise can be met
+  pub ends : By288 M
+  pub host : HostThere M
+  pub waits : WaitsForSomething M (S .unanswered)
+  pub tries : TriesAll M (S .Condition) (S .AllTried)
 
--- More than the demand: each is stronger than one of the above, or new
+-- each is stronger than one of these, or new
+pub record Stronger (M : Automaton) (S : View M) : Type 0 where
+  pub heeded : By288Heeded M
+  pub all-but : AllBut287 M
+  pub two-each : TwoForEach M
+  pub fuel : Fuel M
+  pub fresh : AttemptsNew M (S .attempted)
+
+-- Of Braidhatch, in every configuration and whatever its inputs bring
+
+abbrev pub seen : (r : Rules) (t : Timing) (l : Alts) (n : Names) → View (race r t l n)
+seen r t l n = record { unanswered = unanswered; Condition = Condition; AllTried = AllTried; attempted = wasAttempted }
+
+-- 95 = 16 records + 16 refreshes + 32 attempts + 31 cancels. What can be reached is 94, with 15 refreshes; that isn't proved: with 16 records one
+-- more is always wanted, and the Full that stands for it hides the last refresh.
+abbrev pub Demand3 : Rules → Timing → Alts → Names → Type 0
+Demand3 r t l n = Demand (race r t l n) (seen r t l n)
+
 pub record Beyond (r : Rules) (t : Timing) (l : Alts) (n : Names) : Type 0 where
-  pub heeded : By288Heeded (race r t l n)
-  pub all-but : AllBut287 (race r t l n)
-  pub two-each : TwoForEach (race r t l n)
-  pub fuel : Fuel (race r t l n)
+  pub stronger : Stronger (race r t l n) (seen r t l n)
+  -- the last sentence with hints counted too
   pub hinted : TriesAll (race r t l n) WithHints AllTried
-  pub fresh : AttemptsNew (race r t l n) wasAttempted
+  -- inputs that change something are few, and any other leaves the machine
+  pub few : Heeds64 (race r t l n) heeds
+  pub leaves : LeavesElse (race r t l n) heeds

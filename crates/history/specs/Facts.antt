@@ -18,7 +18,8 @@ pub record View (M : Automaton) : Type 1 where
   -- an endpoint was attempted
   pub attempted : M .State → Endpoint → Bool
 
-pub record Facts (M : Automaton) (S : View M) : Type 1 where
+-- `Lasts` says how long a timer may be
+pub record FactsFor (Lasts : ℕ → Type 0) (M : Automaton) (S : View M) : Type 1 where
   -- what stands in a state whatever the clock does, and that no moment held in it is later than t
   pub Good : M .State → Type 0
   pub Past : M .State → ℕ → Type 0
@@ -39,10 +40,14 @@ pub record Facts (M : Automaton) (S : View M) : Type 1 where
   pub past-later : (s : M .State) (t u : ℕ) → t ≤ u → Past s t → Past s u
   pub past-next : (s : M .State) (t : ℕ) → Good s → Past s t → Past (M .next s t) t
   pub past-feed : (s : M .State) (t : ℕ) (i : M .Input) → Good s → Past s t → Past (M .feed s t i) t
-  -- a timer is never 0, and ends where one of the two delays ends
+  -- a timer ends where one of the two delays ends
   pub timed : (s : M .State) (t d : ℕ) → Good s → Past s t → M .says s t ≡ output.Timer d
-      → (0 < d) × ((t + d ≡ attemptEnd s) ⊎ (t + d ≡ resolutionEnd s))
+      → Lasts d × ((t + d ≡ attemptEnd s) ⊎ (t + d ≡ resolutionEnd s))
   -- what Waiting, Failed and an attempt rest on
   pub waits : (s : M .State) (t : ℕ) → Good s → M .says s t ≡ output.Waiting → S .unanswered s ≡ true
   pub tries : (s : M .State) (t : ℕ) → Good s → isRest (M .says s t) ≡ true → S .Condition s → S .AllTried s
   pub fresh : (s : M .State) (t i : ℕ) (r : Bool) (e : Endpoint) → Good s → M .says s t ≡ output.Attempt i r e → S .attempted s e ≡ false
+
+-- A timer is never 0
+abbrev pub Facts : (M : Automaton) → View M → Type 1
+Facts M S = FactsFor (λ d. 0 < d) M S

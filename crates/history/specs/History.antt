@@ -156,6 +156,12 @@ unheeded M s [] = Unit
 unheeded M s (input t i ∷ h) = (M .feed s t i ≡ s) × unheeded M s h
 unheeded M s (call t ∷ h) = unheeded M (M .next s t) h
 
+-- how many inputs pass a test
+unfoldable pub heededIn : (M : Automaton) → (M .State → ℕ → M .Input → Bool) → M .State → List (Event (M .Input)) → ℕ
+heededIn M test s [] = 0
+heededIn M test s (input t i ∷ h) = one (test s t i) + heededIn M test (M .feed s t i) h
+heededIn M test s (call t ∷ h) = heededIn M test (M .next s t) h
+
 -- when the punctual host calls again: at a timer's end, and else at once
 abbrev pub after : Output → ℕ → ℕ
 after output.Waiting t = t

@@ -18,6 +18,8 @@ use Rattle.records.specs.declared.endpoints.Endpoint.{Endpoint}
 use Rattle.listing.specs.Listing.{endpointsToAttempt}
 use Rattle.state.specs.State.{made, asked, tried}
 use Rattle.state.specs.declared.Machine.{Machine}
+use Rattle.state.specs.declared.changes.InputChange.{InputChange}
+use Rattle.state.specs.declared.changes.InputChange.the-variants as change
 use Rattle.starting.specs.Surveys.{isOpenAttempt, isKind, isAnswered, isAnsweredKind, hasAddress, isFlying, asksOf, hintsOf}
 use Rattle.starting.specs.Starting.{someAddress}
 use Rattle.starting.specs.Next.{attempted}
@@ -25,7 +27,7 @@ use Rattle.input.specs.declared.Input.{Input}
 use Rattle.machine.specs.declared.calls.Beside.{Beside}
 use Rattle.machine.specs.declared.wish.Wish.{Wish}
 use Rattle.machine.specs.Output.{wishOf, granted}
-use Rattle.machine.specs.Steps.{called, outputStep, inputStep}
+use Rattle.machine.specs.Steps.{called, changeOf, judged, outputStep, inputStep}
 use Rattle.history.specs.History.{Automaton}
 use Rattle.history.specs.Facts.{View}
 
@@ -44,6 +46,18 @@ race r t l n =
       next = λ m now. outputStep m now .machine;
       feed = λ m now i. inputStep m now (i .input) (i .beside) .machine;
     }
+
+-- an input is heeded if it changes something: it is accepted, and isn't the result of a cancelled attempt
+abbrev pub changes : InputChange → Bool
+changes change.Nothing = false
+changes (change.Ends p a) = true
+changes (change.Retries p a r) = true
+changes (change.Holds p q) = true
+changes (change.Empties p q) = true
+changes (change.Offers p q round) = true
+
+unfoldable pub heeds : Machine → ℕ → Fed → Bool
+heeds m now i = changes (changeOf (judged m now (i .input)))
 
 -- a query, a refresh or an attempt has no answer
 unfoldable pub unanswered : Machine → Bool

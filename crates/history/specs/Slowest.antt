@@ -81,3 +81,6 @@ zeroSays s t = cond (eqb t 0) (output.Timer 0) output.Waiting
 
 abbrev pub zeroTimer : Automaton
 zeroTimer = record { State = Unit {0}; Input = Unit {0}; made = tt; says = zeroSays; next = λ s t. s; feed = λ s t i. s }
+
+abbrev pub zeroView : View zeroTimer
+zeroView = record { unanswered = λ s. true; Condition = λ s. Unit {0}; AllTried = λ s. Unit {0}; attempted = λ s e. false }
