@@ -1,0 +1,2 @@
+// Tapes: frames, replay, tape check (document 01, "Refusal numbers" and part 8).
+pub mod frames;
