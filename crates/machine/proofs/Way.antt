@@ -28,9 +28,11 @@ use Rattle.starting.specs.declared.next.Next.{Next}
 use Rattle.starting.specs.declared.next.Next.the-variants as next
 use Rattle.starting.specs.declared.wanted.Wanted.{Wanted}
 use Rattle.starting.specs.declared.wanted.Wanted.the-variants as wanted
+use Rattle.machine.specs.declared.calls.Survey.{Survey}
 use Rattle.machine.specs.declared.wish.Look.{Look}
 use Rattle.machine.specs.declared.wish.Found.{Found}
 use Rattle.machine.specs.declared.wish.Wish.{Wish}
+use Rattle.machine.specs.Steps.{surveyOf}
 use Rattle.machine.specs.Output.{endWish, restWish, queryWish, attemptWish, retryWish, gate, wishBy, noLook, hasOthers, lookOf, retryFound, attemptFound, otherFound, ifLooked, laterFound, foundBy, originIn, nextOrigin, wishFound, wishFrom}
 
 -- the query: where nothing but the origin's can be wanted, none is looked for
@@ -88,3 +90,8 @@ pub found-way : (same : Same) (alike : Alike) (r : Rules) (t : Timing) (l : Alts
 unfolding wishFrom foundBy laterFound lookOf wishBy nextOrigin nextQuery wantedBy asksOf
 found-way same alike r t l q d s a retries now =
     way (triesOf a .won) (ltb 0 (retries .count)) (gate r t (triesOf a) (asksOf q) (hintsOf s) now) (hasOthers (s .count) (l .count)) _ (triesOf a .first) (nextRetry alike a retries) (nextEndpoint alike r l q d s a same) (r .mode) (originWanted r (asksOf q .asked)) (orWanted (targetsWanted r q s same) (altsWanted r l q same)) (restWish t (triesOf a) (asksOf q) (a .count) now) refl (no-retry alike a retries) (λ e. neither (ltb 0 (s .count)) (ltb 0 (l .count)) _ _ e (no-target r q s same) (no-alt r l q same))
+
+-- so the wish from a survey, and from what is found for it, is what the rules call for
+pub wish-seen : (same : Same) (alike : Alike) (r : Rules) (t : Timing) (l : Alts) (q : Queries) (d : Answers) (s : Services) (a : Attempts) (retries : Retries) (now : ℕ) (seen : Survey) (found : Found) (w : Wish) → seen ≡ surveyOf r t (l .count) q s a (retries .count) now → found ≡ foundBy same alike (seen .look) (seen .asks .asked) r l q d s a retries → w ≡ wishFrom r t (seen .tries) (seen .asks) found (a .count) now → w ≡ wishBy same alike r t l q d s a retries now
+unfolding surveyOf
+wish-seen same alike r t l q d s a retries now seen found w e f v = v ∙ rw (f, e) (found-way same alike r t l q d s a retries now)

@@ -1,20 +1,27 @@
 -- The two calls over the whole machine.
 use Prim.Native.Nat.{ℕ}
+use Rattle.records.specs.declared.rules.Rules.{Rules}
+use Rattle.records.specs.declared.rules.Timing.{Timing}
+use Rattle.records.specs.declared.queries.Queries.{Queries}
+use Rattle.records.specs.declared.services.Services.{Services}
 use Rattle.state.specs.declared.Machine.{Machine}
+use Rattle.state.specs.declared.attempts.Attempts.{Attempts}
 use Rattle.state.specs.declared.changes.CallChange.{CallChange}
 use Rattle.state.specs.declared.changes.InputChange.{InputChange}
 use Rattle.state.specs.declared.changes.InputChange.the-variants.{Nothing}
+use Rattle.starting.specs.Surveys.{triesOf, asksOf, hintsOf}
 use Rattle.input.specs.Input.{verdictOf}
 use Rattle.input.specs.declared.Input.{Input}
 use Rattle.input.specs.declared.Verdict.{Verdict}
 use Rattle.input.specs.declared.Verdict.the-variants as verdict
 use Rattle.machine.specs.declared.calls.Beside.{Beside}
+use Rattle.machine.specs.declared.calls.Survey.{Survey}
 use Rattle.machine.specs.declared.calls.OutputStep.{OutputStep}
 use Rattle.machine.specs.declared.calls.InputStep.{InputStep}
 use Rattle.machine.specs.declared.calls.Taken.{Taken}
 use Rattle.machine.specs.declared.calls.Taken.the-variants as taken
 use Rattle.machine.specs.declared.grant.Turn.{Turn}
-use Rattle.machine.specs.Output.{wishOf, granted}
+use Rattle.machine.specs.Output.{lookOf, wishOf, granted}
 use Rattle.machine.specs.After.{queriesCalled, attemptsCalled, idsCalled, queriesFed, attemptsFed, retriesFed, answersFed, servicesFed, namesFed, echsFed}
 
 -- the machine after a change that a call makes, and after one that an input makes
@@ -48,6 +55,15 @@ fed m c b =
       retries = retriesFed (m .retries) c;
       names = namesFed (m .names) c (b .names);
       echs = echsFed (m .echs) c (b .echs) (b .retry);
+    }
+
+-- what a call sees, with so many alternative services and retries
+unfoldable pub surveyOf : Rules → Timing → ℕ → Queries → Services → Attempts → ℕ → ℕ → Survey
+surveyOf r t alts q s a retries now =
+    record {
+      tries = triesOf a;
+      asks = asksOf q;
+      look = lookOf r t (triesOf a) (asksOf q) (hintsOf s) retries (s .count) alts now;
     }
 
 -- what is given for what the rules call for at a moment

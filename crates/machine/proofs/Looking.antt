@@ -1,0 +1,54 @@
+-- What is found by class is what is found with the bytes; where nothing is looked for, nothing is found.
+use Prim.Native.Nat.{ℕ}
+use mathlib.Core.Path.{_≡_, refl, sym, ap, _∙_}
+use mathlib.Core.Bool.{Bool, true, false, false≢true, _||_}
+use Rattle.records.specs.Classes.{sameClass, sameNames}
+use Rattle.records.specs.Names.{sameAt}
+use Rattle.records.specs.Endpoints.{sameEndpoint}
+use Rattle.records.specs.declared.names.Names.{Names}
+use Rattle.records.specs.declared.names.Echs.{Echs}
+use Rattle.records.specs.declared.rules.Rules.{Rules}
+use Rattle.records.specs.declared.rules.Alts.{Alts}
+use Rattle.records.specs.declared.queries.Queries.{Queries}
+use Rattle.records.specs.declared.queries.Answers.{Answers}
+use Rattle.records.specs.declared.services.Services.{Services}
+use Rattle.records.proofs.Classes.{classes-same}
+use Rattle.listing.specs.Held.{Same}
+use Rattle.state.specs.declared.attempts.Attempts.{Attempts}
+use Rattle.state.specs.declared.attempts.Retries.{Retries}
+use Rattle.starting.specs.Alike.{alikeEndpoints, alikeOf, sameHostsOf, sameEchsOf}
+use Rattle.starting.specs.Next.{Alike, nextRetry, nextEndpoint}
+use Rattle.starting.specs.Wanted.{wantedBy}
+use Rattle.starting.specs.declared.alike.Alike as classes
+use Rattle.starting.specs.declared.surveys.Kinds.{Kinds}
+use Rattle.starting.specs.declared.next.Next.{Next}
+use Rattle.starting.specs.declared.wanted.Wanted.{Wanted}
+use Rattle.starting.proofs.Classed.{alike-same}
+use Rattle.machine.specs.declared.wish.Look.{Look}
+use Rattle.machine.specs.declared.wish.Found.the-variants as found
+use Rattle.machine.specs.Output.{looks, ifLooked, retryFound, attemptFound, otherFound, laterFound, foundBy}
+
+-- two endpoints are one by class exactly if they are with their bytes
+alike-bytes : (names : Names) (echs : Echs) → alikeEndpoints (sameHostsOf names) (sameEchsOf echs) ≡ sameEndpoint names echs
+alike-bytes names echs = λ j a b. alike-same names echs a b j
+
+found-bytes : (names : Names) (echs : Echs) (look : Look) (k : Kinds) (r : Rules) (l : Alts) (q : Queries) (d : Answers) (s : Services) (a : Attempts) (retries : Retries) → foundBy (sameClass (alikeOf names echs .names)) (alikeEndpoints (alikeOf names echs .hosts) (alikeOf names echs .echs)) look k r l q d s a retries ≡ foundBy (sameAt names) (sameEndpoint names echs) look k r l q d s a retries
+unfolding alikeOf
+found-bytes names echs look k r l q d s a retries =
+    ap (λ same. foundBy same (alikeEndpoints (sameHostsOf names) (sameEchsOf echs)) look k r l q d s a retries) (classes-same names)
+    ∙ ap (λ alike. foundBy (sameAt names) alike look k r l q d s a retries) (alike-bytes names echs)
+
+pub found-same : (names : Names) (echs : Echs) (alike : classes.Alike) (look : Look) (k : Kinds) (r : Rules) (l : Alts) (q : Queries) (d : Answers) (s : Services) (a : Attempts) (retries : Retries) → alike ≡ alikeOf names echs → foundBy (sameClass (alike .names)) (alikeEndpoints (alike .hosts) (alike .echs)) look k r l q d s a retries ≡ foundBy (sameAt names) (sameEndpoint names echs) look k r l q d s a retries
+found-same names echs alike look k r l q d s a retries e =
+    ap (λ x. foundBy (sameClass (x .names)) (alikeEndpoints (x .hosts) (x .echs)) look k r l q d s a retries) e ∙ found-bytes names echs look k r l q d s a retries
+
+nothing : (a b c : Bool) (n m : Next) (w : Wanted) → a || (b || c) ≡ false → retryFound (ifLooked a n) (attemptFound (ifLooked b m) (otherFound c w)) ≡ found.Nothing
+nothing true b c n m w e = absurd (false≢true (sym e))
+nothing false true c n m w e = absurd (false≢true (sym e))
+nothing false false true n m w e = absurd (false≢true (sym e))
+nothing false false false n m w e = refl
+
+pub found-nothing : (same : Same) (alike : Alike) (look : Look) (k : Kinds) (r : Rules) (l : Alts) (q : Queries) (d : Answers) (s : Services) (a : Attempts) (retries : Retries) → looks look ≡ false → foundBy same alike look k r l q d s a retries ≡ found.Nothing
+unfolding foundBy laterFound
+found-nothing same alike look k r l q d s a retries e =
+    nothing (look .retry) (look .next) (look .query) (nextRetry alike a retries) (nextEndpoint alike r l q d s a same) (wantedBy k r l q s same) e
