@@ -1,0 +1,4 @@
+pub mod Offers
+pub mod Events
+pub mod Shown
+pub mod Told
