@@ -29,7 +29,7 @@ use Rattle.machine.specs.declared.wish.Found.the-variants as found
 use Rattle.machine.specs.Output.{looks, ifLooked, retryFound, attemptFound, otherFound, laterFound, foundBy}
 
 -- two endpoints are one by class exactly if they are with their bytes
-alike-bytes : (names : Names) (echs : Echs) → alikeEndpoints (sameHostsOf names) (sameEchsOf echs) ≡ sameEndpoint names echs
+pub alike-bytes : (names : Names) (echs : Echs) → alikeEndpoints (sameHostsOf names) (sameEchsOf echs) ≡ sameEndpoint names echs
 alike-bytes names echs = λ j a b. alike-same names echs a b j
 
 found-bytes : (names : Names) (echs : Echs) (look : Look) (k : Kinds) (r : Rules) (l : Alts) (q : Queries) (d : Answers) (s : Services) (a : Attempts) (retries : Retries) → foundBy (sameClass (alikeOf names echs .names)) (alikeEndpoints (alikeOf names echs .hosts) (alikeOf names echs .echs)) look k r l q d s a retries ≡ foundBy (sameAt names) (sameEndpoint names echs) look k r l q d s a retries
