@@ -1,1 +1,3 @@
+-- Laws that several proofs, and the crates above, cite.
 pub mod Framed
+pub mod Replying
