@@ -19,8 +19,8 @@ use Rattle.records.specs.declared.queries.Kind.{Kind}
 use Rattle.parts.specs.Reading.{Reading, read, fault, next}
 use Rattle.parts.proofs.Steps.{went-on, on-field}
 use Rattle.bodies.specs.Events.{itemsAt, answerAt, inputAt, kindAt, bodyAt, eventAt}
-use Rattle.bodies.specs.declared.events.Event.{Event}
-use Rattle.bodies.specs.declared.events.Event.the-variants as event
+use Rattle.bodies.specs.declared.Event.{Event}
+use Rattle.bodies.specs.declared.Event.the-variants as event
 
 module _ (s : List ℕ) (k q : ℕ) (e : got k q ≡ atMost 7 outOfRange (readNumber s 0)) where
   some-number : ℕ → ℕ → Got ℕ

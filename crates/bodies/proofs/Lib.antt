@@ -1,3 +1,2 @@
 -- Laws that several proofs, and the crates above, cite.
-pub mod OfferLaws
 pub mod EventLaws

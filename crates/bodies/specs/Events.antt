@@ -16,10 +16,10 @@ use Rattle.parts.specs.Items.{counted}
 use Rattle.parts.specs.Addresses.{address}
 use Rattle.parts.specs.declared.address.Form.the-variants.{Four, Scoped}
 use Rattle.parts.specs.declared.address.Items.{Items}
-use Rattle.bodies.specs.Offers.{offer}
-use Rattle.bodies.specs.declared.events.Event.{Event}
-use Rattle.bodies.specs.declared.events.Event.the-variants as event
-use Rattle.bodies.specs.declared.events.Fault.{Fault}
+use Rattle.offers.specs.Offers.{offer}
+use Rattle.bodies.specs.declared.Event.{Event}
+use Rattle.bodies.specs.declared.Event.the-variants as event
+use Rattle.bodies.specs.declared.Fault.{Fault}
 
 -- the items of an answer: at most 8 addresses, with a scope in an AAAA answer, or at most 4 services
 abbrev pub itemsAt : Kind → List ℕ → (p : ℕ) → Reading Items

@@ -1,4 +1,3 @@
-pub mod Offers
 pub mod Events
 pub mod Shown
 pub mod Told

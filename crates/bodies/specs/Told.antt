@@ -15,11 +15,11 @@ use Rattle.parts.specs.Addresses.{addressesIn}
 use Rattle.parts.specs.Rooms.{kept, echIn}
 use Rattle.parts.specs.declared.address.Form.the-variants.{Four, Scoped}
 use Rattle.parts.specs.declared.address.Items.{Items}
-use Rattle.bodies.specs.Offers.{noOffered, offeredIn}
+use Rattle.offers.specs.Offers.{noOffered, offeredIn}
 use Rattle.bodies.specs.Events.{eventAt}
-use Rattle.bodies.specs.declared.offers.Offered.{Offered}
-use Rattle.bodies.specs.declared.events.Event.{Event}
-use Rattle.bodies.specs.declared.events.Event.the-variants as event
+use Rattle.offers.specs.declared.Offered.{Offered}
+use Rattle.bodies.specs.declared.Event.{Event}
+use Rattle.bodies.specs.declared.Event.the-variants as event
 
 -- an HTTPS answer has no addresses: its services are counted where they lie
 abbrev pub addressCount : Kind → Items → ℕ
