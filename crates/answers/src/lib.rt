@@ -1,0 +1,2 @@
+// Answers in bytes (document 01, what a tape is answered): written whole or not at all.
+pub mod writer;

@@ -1,0 +1,178 @@
+-- One event, decided over the machine's parts, is one step of the run.
+use Prim.Native.Nat.{ℕ, _≤_, _<_}
+use native.Mathlib.Omega.{arith}
+use mathlib.Core.Path.{_≡_, refl, sym, ap, _∙_}
+use mathlib.Core.Logic.{⊎-elim}
+use mathlib.Core.List.{List}
+use lib.ListN.{getD}
+use borrow.Author.Tests.{lt-ltb, le-ltb}
+use Rattle.numbers.proofs.Cases.{less-or-not}
+use Rattle.numbers.specs.Refusals.{refusalNumber}
+use Rattle.records.specs.Classes.{sameClass}
+use Rattle.records.specs.Names.{sameAt, nameBytes, nameAt, nameBytesAt, blankName, echBytes, echAt, echBytesAt, blankEch}
+use Rattle.records.specs.Endpoints.{sameEndpoint}
+use Rattle.starting.specs.Alike.{sameHostsOf, sameEchsOf, alikeEndpoints, alikeOf}
+use Rattle.starting.specs.Next as next
+use Rattle.starting.specs.declared.alike.Alike as classes
+use Rattle.listing.specs.Held.{Same}
+use Rattle.pacing.specs.declared.id.IdGenerator.{IdGenerator}
+use Rattle.records.specs.declared.names.Names.{Names}
+use Rattle.records.specs.declared.names.Echs.{Echs}
+use Rattle.records.specs.declared.rules.Rules.{Rules}
+use Rattle.records.specs.declared.rules.Timing.{Timing}
+use Rattle.records.specs.declared.rules.Alts.{Alts}
+use Rattle.records.specs.declared.queries.Queries.{Queries}
+use Rattle.records.specs.declared.queries.Answers.{Answers}
+use Rattle.records.specs.declared.services.Services.{Services}
+use Rattle.state.specs.State.{made}
+use Rattle.state.specs.declared.attempts.Attempts.{Attempts}
+use Rattle.state.specs.declared.attempts.Retries.{Retries}
+use Rattle.input.specs.Input.{verdictOf}
+use Rattle.machine.specs.declared.grant.Turn.{Turn}
+use Rattle.machine.specs.declared.grant.Output.{Output}
+use Rattle.state.specs.declared.Machine.{Machine}
+use Rattle.state.specs.declared.changes.CallChange.the-variants as call
+use Rattle.state.specs.declared.changes.InputChange.the-variants as input
+use Rattle.machine.specs.declared.calls.Beside.{Beside}
+use Rattle.machine.specs.After.{answersFed, servicesFed, retriesFed, namesFed, echsFed}
+use Rattle.machine.specs.Output.{wishBy, wishOf, granted}
+use Rattle.machine.specs.Steps.{turnOf, judged, outputStep, inputStep}
+use Rattle.records.proofs.Classes.{classes-same}
+use Rattle.machine.proofs.Looking.{alike-bytes}
+use Rattle.parts.specs.Reading.{Reading, read, fault}
+use Rattle.parts.specs.Reading as reading
+use Rattle.bodies.specs.Events.{eventAt}
+use Rattle.bodies.specs.Shown.{eventShown}
+use Rattle.bodies.specs.Told.{Told, readBody, besideOf, toldBy}
+use Rattle.bodies.specs.Told as told
+use Rattle.bodies.specs.declared.Event.{Event}
+use Rattle.bodies.specs.declared.Event.the-variants as event
+use Rattle.bodies.specs.declared.EventRead.{EventRead}
+use Rattle.bodies.specs.declared.EventRead.the-variants as reads
+use Rattle.answers.specs.Answers.{Said}
+use Rattle.answers.specs.Outputs.{saidOf, namedAt, outputName, sealedAt, outputEch}
+use Rattle.replay.specs.declared.reply.Answer.{Answer}
+use Rattle.replay.specs.declared.reply.Answer.the-variants as answer
+use Rattle.replay.specs.declared.reply.Change.{Change}
+use Rattle.replay.specs.declared.reply.Change.the-variants as change
+use Rattle.replay.specs.declared.reply.Reply.{Reply}
+use Rattle.replay.specs.declared.reply.Touched.{Touched}
+use Rattle.replay.specs.declared.reply.Touched.the-variants as touched
+use Rattle.replay.specs.Replies.{replyBy, replyOn, eventIn, after, changeIn, idsAfter, queriesAfter, attemptsAfter, touchedOf}
+use Rattle.replay.specs.Saying.{answerName, answerEch, saidTo}
+use Rattle.replay.specs.Replay.{Step, stepBy, stepOf}
+
+-- what is said with the machine's tables
+abbrev pub saidIn : Machine → Answer → Said
+saidIn m a = saidTo (nameBytesAt (m .names) 0) (nameBytesAt (m .names) (answerName a)) (echBytesAt (m .echs) (answerEch a)) a
+
+-- the step that a reply makes
+abbrev pub stepIn : Machine → Reply → Beside → Step
+stepIn m r b = record { machine = after m (r .change) b; said = saidIn m (r .answer); calls = r .calls }
+
+event-step : (m : Machine) (now end : ℕ) (body : List ℕ) (e : Event) → stepBy m now (read (toldBy body e) end) ≡ stepIn m (replyOn (turnOf m now) (judged m now) e) (besideOf body e)
+unfolding outputStep inputStep saidOf
+event-step m now end body event.Call = refl
+event-step m now end body (event.Fails k id stale) = refl
+event-step m now end body (event.Holds k id stale l) = refl
+event-step m now end body (event.Success id) = refl
+event-step m now end body (event.Failure id) = refl
+event-step m now end body (event.EchRetry id b) = refl
+
+read-step : (m : Machine) (now : ℕ) (body : List ℕ) (r : EventRead) → stepBy m now (reading.next (eventShown r) (λ e end. read (toldBy body e) end)) ≡ stepIn m (replyBy (turnOf m now) (judged m now) r) (besideOf body (eventIn r))
+read-step m now body (reads.Event e end) = event-step m now end body e
+read-step m now body (reads.Refused e p) = refl
+
+-- the step of a body that was read
+pub body-step : (m : Machine) (now : ℕ) (body : List ℕ) (r : EventRead) → eventShown r ≡ eventAt body → stepOf m now body ≡ stepIn m (replyBy (turnOf m now) (judged m now) r) (besideOf body (eventIn r))
+unfolding stepOf readBody
+body-step m now body r e = ap (λ x. stepBy m now (reading.next x (λ v end. read (toldBy body v) end))) (sym e) ∙ read-step m now body r
+
+-- The parts after a change, by what it touches
+
+abbrev pub partsBy : Touched → Machine → Change → Beside → Machine
+partsBy touched.Nothing m c b = m
+partsBy touched.Asked m c b =
+    record { rules = m .rules; timing = m .timing; alts = m .alts; ids = idsAfter (m .ids) c; queries = queriesAfter (m .queries) c; answers = m .answers; services = m .services; attempts = m .attempts; retries = m .retries; names = m .names; echs = m .echs }
+partsBy touched.Tried m c b =
+    record { rules = m .rules; timing = m .timing; alts = m .alts; ids = idsAfter (m .ids) c; queries = m .queries; answers = m .answers; services = m .services; attempts = attemptsAfter (m .attempts) c; retries = m .retries; names = m .names; echs = m .echs }
+partsBy touched.Answered m c b =
+    record { rules = m .rules; timing = m .timing; alts = m .alts; ids = m .ids; queries = queriesAfter (m .queries) c; answers = answersFed (m .answers) (changeIn c) (b .addresses); services = m .services; attempts = m .attempts; retries = m .retries; names = m .names; echs = m .echs }
+partsBy touched.Brought m c b =
+    record { rules = m .rules; timing = m .timing; alts = m .alts; ids = m .ids; queries = queriesAfter (m .queries) c; answers = m .answers; services = servicesFed (m .services) (changeIn c) (b .services); attempts = attemptsAfter (m .attempts) c; retries = retriesFed (m .retries) (changeIn c); names = namesFed (m .names) (changeIn c) (b .names); echs = echsFed (m .echs) (changeIn c) (b .echs) (b .retry) }
+
+pub parts-after : (m : Machine) (c : Change) (b : Beside) → after m c b ≡ partsBy (touchedOf c) m c b
+parts-after m change.Nothing b = refl
+parts-after m (change.Called call.Nothing) b = refl
+parts-after m (change.Called (call.Asks p q)) b = refl
+parts-after m (change.Called (call.Tries p a)) b = refl
+parts-after m (change.Called (call.Cancels p a)) b = refl
+parts-after m (change.Fed input.Nothing) b = refl
+parts-after m (change.Fed (input.Ends p a)) b = refl
+parts-after m (change.Fed (input.Retries p a r)) b = refl
+parts-after m (change.Fed (input.Holds p q)) b = refl
+parts-after m (change.Fed (input.Empties p q)) b = refl
+parts-after m (change.Fed (input.Offers p q round)) b = refl
+
+-- a step counts one call at most
+few-by : (m : Machine) (now : ℕ) (r : Reading Told) → stepBy m now r .calls ≤ 1
+few-by m now (read told.call end) = omega arith
+few-by m now (read (told.fed i b) end) = omega arith
+few-by m now (fault n p) = omega arith
+
+pub few-calls : (m : Machine) (now : ℕ) (body : List ℕ) → stepOf m now body .calls ≤ 1
+unfolding stepOf
+few-calls m now body = few-by m now (readBody body)
+
+-- Names and ECH bytes compared by class are compared by their bytes
+
+-- what a call is given, over a test of names and of endpoints
+abbrev pub turnBy : Same → next.Alike → Machine → ℕ → Turn
+turnBy same alike m now =
+    granted (m .queries) (m .attempts) (m .ids) (wishBy same alike (m .rules) (m .timing) (m .alts) (m .queries) (m .answers) (m .services) (m .attempts) (m .retries) now) now
+
+pub turn-same : (m : Machine) (now : ℕ) (alike : classes.Alike) → alike ≡ alikeOf (m .names) (m .echs) → turnBy (sameClass (alike .names)) (alikeEndpoints (alike .hosts) (alike .echs)) m now ≡ turnOf m now
+unfolding turnOf wishOf alikeOf
+turn-same m now alike e =
+    ap (λ c. turnBy (sameClass (c .names)) (alikeEndpoints (c .hosts) (c .echs)) m now) e
+    ∙ (ap (λ same. turnBy same (alikeEndpoints (sameHostsOf (m .names)) (sameEchsOf (m .echs))) m now) (classes-same (m .names))
+    ∙ ap (λ x. turnBy (sameAt (m .names)) x m now) (alike-bytes (m .names) (m .echs)))
+
+-- The loop's parts as a machine; at its start they are the made one's
+abbrev pub parts : Rules → Timing → Alts → IdGenerator → Queries → Answers → Services → Attempts → Retries → Names → Echs → Machine
+parts r t l ids q d s a retries n e =
+    record { rules = r; timing = t; alts = l; ids = ids; queries = q; answers = d; services = s; attempts = a; retries = retries; names = n; echs = e }
+
+pub made-parts : (r : Rules) (t : Timing) (l : Alts) (n : Names) (m : Machine) → m ≡ made r t l n → parts r t l (m .ids) (m .queries) (m .answers) (m .services) (m .attempts) (m .retries) (m .names) (m .echs) ≡ made r t l n
+unfolding made
+made-parts r t l n m e = ap (λ x. parts r t l (x .ids) (x .queries) (x .answers) (x .services) (x .attempts) (x .retries) (x .names) (x .echs)) e
+
+-- the step of a body, as the loop comes to it
+pub step-made : (m : Machine) (alike : classes.Alike) (now : ℕ) (whole body : List ℕ) (r : EventRead) (e : Event) (reply : Reply) → alike ≡ alikeOf (m .names) (m .echs) → whole ≡ body → eventShown r ≡ eventAt body → e ≡ eventIn r
+    → reply ≡ replyBy (turnBy (sameClass (alike .names)) (alikeEndpoints (alike .hosts) (alike .echs)) m now) (λ i. verdictOf (m .rules .ech) (m .queries) (m .attempts) (m .retries .count) i now) r
+    → stepIn m reply (besideOf body e) ≡ stepOf m now whole
+unfolding judged
+step-made m alike now whole body r e reply c w h v k =
+    rw (w, v, k, turn-same m now alike c) (sym (body-step m now body r h))
+
+-- what is written is what is said
+name-place : (o : Output) → outputName o < 14
+unfolding outputName
+name-place o = ⊎-elim (λ (h : namedAt o < 14). rw (lt-ltb _ _ h) h) (λ (h : 14 ≤ namedAt o). rw (le-ltb _ _ h) (omega arith)) (less-or-not (namedAt o) 14)
+
+ech-place : (o : Output) → outputEch o < 40
+unfolding outputEch
+ech-place o = ⊎-elim (λ (h : sealedAt o < 40). rw (lt-ltb _ _ h) h) (λ (h : 40 ≤ sealedAt o). rw (le-ltb _ _ h) (omega arith)) (less-or-not (sealedAt o) 40)
+
+pub name-inside : (a : Answer) → answerName a < 14
+name-inside (answer.Output o) = name-place o
+name-inside (answer.Input t) = omega arith
+
+pub ech-inside : (a : Answer) → answerEch a < 40
+ech-inside (answer.Output o) = ech-place o
+ech-inside (answer.Input t) = omega arith
+
+pub said-in : (m : Machine) (a : Answer) (np ep : ℕ) → np ≡ answerName a → ep ≡ answerEch a
+    → saidTo (nameBytes (getD (m .names .list) 0 blankName)) (nameBytes (getD (m .names .list) np blankName)) (echBytes (getD (m .echs .list) ep blankEch)) a ≡ saidIn m a
+unfolding nameAt echAt
+said-in m a np ep e f = rw (e, f, lt-ltb (answerName a) 14 (name-inside a), lt-ltb (answerEch a) 40 (ech-inside a))

@@ -1,0 +1,205 @@
+// Replay: each part of the machine lies in a local of its own, and only the parts that an event touches are stored.
+ghost use mathlib.Core.Path.{_≡_};
+ghost use lib.ListN.{length};
+ghost use lib.Seq.{sets};
+ghost use Rattle.numbers.specs.Put.{putAnswer, putBytes};
+ghost use Rattle.numbers.specs.Shown.{wroteShown};
+ghost use Rattle.records.specs.Names.{nameBytes, echBytes};
+ghost use Rattle.answers.specs.Answers.{answerBytes};
+ghost use Rattle.state.specs.State.{made};
+ghost use Rattle.replay.specs.Saying.{answerName, answerEch, saidTo};
+ghost use Rattle.replay.specs.Replay.{runFrom};
+use super::frames::FrameRead;
+use super::frames::frame_at;
+use super::reply::Answer;
+use super::reply::Touched;
+use super::reply::attempts_after;
+use super::reply::change_in;
+use super::reply::event_in;
+use super::reply::ids_after;
+use super::reply::queries_after;
+use super::reply::reply_to;
+use super::reply::touched_of;
+use answers::writer::output_ech;
+use answers::writer::output_name;
+use answers::writer::put_output;
+use answers::writer::put_taken;
+use bodies::addresses_of;
+use bodies::offered_of;
+use bodies::read_event;
+use bodies::retry_of;
+use machine::after::answers_fed;
+use machine::after::echs_fed;
+use machine::after::names_fed;
+use machine::after::retries_fed;
+use machine::after::services_fed;
+use numbers::put::Wrote;
+use numbers::refusal::refusal_number;
+use records::names::Ech;
+use records::names::Name;
+use records::names::Names;
+use records::rules::Alts;
+use records::rules::Rules;
+use records::rules::Timing;
+use starting::classes::alike_of;
+use state::made;
+
+pub struct Replayed {
+    pub status: u8,
+    pub place: usize,
+    pub written: usize,
+    pub calls: usize,
+}
+
+// The place of the name, and of the ECH bytes, that an answer has; 0 where it has none.
+fn answer_name(a: Answer) -> usize
+    ensures { λ r. ⌜ r ≡ answerName a ⌝ }
+{
+    match a {
+        Answer::Output(o) => output_name(o),
+        Answer::Input(_) => 0,
+    }
+}
+
+fn answer_ech(a: Answer) -> usize
+    ensures { λ r. ⌜ r ≡ answerEch a ⌝ }
+{
+    match a {
+        Answer::Output(o) => output_ech(o),
+        Answer::Input(_) => 0,
+    }
+}
+
+// `origin` is the origin's name; `name` and `ech` are what lies at the places that the answer has.
+fn put_answer(out: &mut [u8], at: usize, a: Answer, origin: Name, name: Name, ech: Ech) -> Wrote
+    ensures answer { λ r. ⌜ wroteShown r ≡ putAnswer (now (out .entry)) at (answerBytes (saidTo (nameBytes origin) (nameBytes name) (echBytes ech) a)) ⌝ }
+    ensures bytes { λ _. ⌜ now (out .exit) ≡ putBytes (now (out .entry)) at (answerBytes (saidTo (nameBytes origin) (nameBytes name) (echBytes ech) a)) ⌝ }
+{
+    match a {
+        Answer::Output(o) => put_output(out, at, o, origin, name, ech),
+        Answer::Input(t) => put_taken(out, at, t),
+    }
+}
+
+// The events of a tape from the place first on.
+fn run(
+    tape: &[u8],
+    out: &mut [u8],
+    first: usize,
+    rules: Rules,
+    timing: Timing,
+    alts: Alts,
+    given: Names,
+) -> Replayed
+    ensures numbers { λ r. ⌜ (r .status ≡ runFrom (now (tape .entry)) first (length (now (out .entry))) (made rules timing alts given) .status) × (r .place ≡ runFrom (now (tape .entry)) first (length (now (out .entry))) (made rules timing alts given) .place) × (r .written ≡ length (runFrom (now (tape .entry)) first (length (now (out .entry))) (made rules timing alts given) .bytes)) × (r .calls ≡ runFrom (now (tape .entry)) first (length (now (out .entry))) (made rules timing alts given) .calls) ⌝ }
+    ensures bytes { λ _. ⌜ now (out .exit) ≡ sets (now (out .entry)) 0 (runFrom (now (tape .entry)) first (length (now (out .entry))) (made rules timing alts given) .bytes) ⌝ }
+{
+    let m = made(rules, timing, alts, given);
+    let mut ids = m.ids;
+    let mut queries = m.queries;
+    let mut answers = m.answers;
+    let mut services = m.services;
+    let mut attempts = m.attempts;
+    let mut retries = m.retries;
+    let mut names = m.names;
+    let mut echs = m.echs;
+    let mut alike = alike_of(names, echs);
+    let mut at = first;
+    let mut written: usize = 0;
+    let mut calls: usize = 0;
+    while at < tape.len() {
+        let f = frame_at(tape, at);
+        match f {
+            FrameRead::Refused(e) => {
+                return Replayed {
+                    status: refusal_number(e),
+                    place: at,
+                    written,
+                    calls,
+                };
+            }
+            FrameRead::Frame(now, b, next) => {
+                let start = b.start;
+                let body = &tape[start..next];
+                let read = read_event(body);
+                let event = event_in(read);
+                let reply = reply_to(
+                    rules,
+                    timing,
+                    alts,
+                    ids,
+                    queries,
+                    answers,
+                    services,
+                    attempts,
+                    retries,
+                    alike,
+                    now,
+                    read,
+                );
+                let answer = reply.answer;
+                let change = reply.change;
+                let counted = reply.calls;
+                let np = answer_name(answer);
+                let ep = answer_ech(answer);
+                let origin = names.list[0];
+                let name = names.list[np];
+                let ech = echs.list[ep];
+                let wrote = put_answer(out, written, answer, origin, name, ech);
+                match wrote {
+                    Wrote::Refused(_) => {
+                        return Replayed {
+                            status: 13,
+                            place: at,
+                            written,
+                            calls,
+                        };
+                    }
+                    Wrote::Next(end) => {
+                        at = next;
+                        written = end;
+                        calls += counted;
+                        let fed = change_in(change);
+                        let touched = touched_of(change);
+                        match touched {
+                            Touched::Nothing => {}
+                            Touched::Asked => {
+                                ids = ids_after(ids, change);
+                                queries = queries_after(queries, change);
+                            }
+                            Touched::Tried => {
+                                ids = ids_after(ids, change);
+                                attempts = attempts_after(attempts, change);
+                            }
+                            Touched::Answered => {
+                                queries = queries_after(queries, change);
+                                let l = addresses_of(body, event);
+                                answers = answers_fed(answers, fed, l);
+                            }
+                            Touched::Brought => {
+                                queries = queries_after(queries, change);
+                                attempts = attempts_after(attempts, change);
+                                let o = offered_of(body, event);
+                                let offered = o.services;
+                                let targets = o.names;
+                                let sealed = o.echs;
+                                let x = retry_of(body, event);
+                                services = services_fed(services, fed, offered);
+                                retries = retries_fed(retries, fed);
+                                names = names_fed(names, fed, targets);
+                                echs = echs_fed(echs, fed, sealed, x);
+                                alike = alike_of(names, echs);
+                            }
+                        }
+                    }
+                }
+            }
+        }
+    }
+    Replayed {
+        status: 0,
+        place: at,
+        written,
+        calls,
+    }
+}
