@@ -1,16 +1,15 @@
 -- What an event that was read is known by: its items can be read again, its names are names, its IPv4 addresses have 32 bits.
---     items-all                 each item of a row that was read
 --     Held, Heard, event-heard  the items of an event
 --     four-formed, name-heard   an IPv4 address, and the name of a service
 use mathlib.Core.Path.{_≡_, refl, sym, ap, subst, _∙_}
 use mathlib.Core.Bool.{Bool, true, false, cond}
-use mathlib.Core.List.{List, [], _∷_}
-use Prim.Native.Nat.{ℕ, zero, suc, _+_, _%_, _^_, _≤_, _<_}
+use mathlib.Core.List.{List}
+use Prim.Native.Nat.{ℕ, _+_, _%_, _^_, _≤_, _<_}
 use native.Mathlib.Omega.{arith}
 use lib.Dec.{ltb, leb, eqb}
 use lib.ListN.{length, getD}
-use borrow.Author.Tests.{eq-eqb, lt-ltb, le-leb}
-use Rattle.numbers.specs.Got.{Got, got, refused, andThen}
+use borrow.Author.Tests.{lt-ltb, le-leb}
+use Rattle.numbers.specs.Got.{got, refused}
 use Rattle.numbers.specs.Fields.{atMost, bytesAt, spanBytes, nameLength, named, nameAt}
 use Rattle.numbers.specs.Names.{nameOk, longestName}
 use Rattle.numbers.specs.Numbers.{readNumber}
@@ -22,34 +21,22 @@ use Rattle.records.specs.declared.queries.Kind.{Kind}
 use Rattle.records.specs.declared.queries.Kind.the-variants.{Https, Aaaa, A}
 use Rattle.standing.specs.Standing.{formed}
 use Rattle.parts.specs.Reading.{Reading, read, fault, next, field}
-use Rattle.parts.specs.Items.{items, counted, found, listed}
 use Rattle.parts.specs.Addresses.{word, four, address}
 use Rattle.parts.specs.Fields.{versionsAt}
 use Rattle.parts.specs.Rooms.{fits, kept}
 use Rattle.parts.specs.declared.address.Form.the-variants.{Four, Scoped}
 use Rattle.parts.specs.declared.address.Items.{Items}
-use Rattle.parts.proofs.Steps.{then-read, field-read, within}
+use Rattle.parts.proofs.Steps.{then-read, field-read, got-then, not-refused, only-got, within}
 use Rattle.parts.proofs.Items.{Row, counted-row}
 use Rattle.parts.proofs.Addresses.{word-small}
-use Rattle.parts.proofs.Copying.{fits-there, kept-there, kept-none, span-length}
+use Rattle.parts.proofs.Copying.{kept-there}
 use Rattle.offers.specs.Offers.{head, way, hints, offer}
 use Rattle.offers.specs.declared.Head.{Head}
 use Rattle.offers.specs.declared.Offer.{Offer}
 use Rattle.bodies.specs.Events.{itemsAt, answerAt, retryAt, restAt, inputAt, kindAt, bodyAt, eventAt}
 use Rattle.bodies.specs.declared.Event.{Event}
 use Rattle.bodies.specs.declared.Event.the-variants as event
-use Rattle.written.specs.Written.{All}
 use Rattle.written.proofs.Tests.{all-none, all-more}
-
-pub items-all : {A : Type 0} (f : ℕ → Reading A) (Q : A → Type 0) → ((p : ℕ) (a : A) (q : ℕ) → read a q ≡ f p → Q a)
-    → (n p : ℕ) (l : List A) (end : ℕ) → items f n p ≡ read l end → All Q l
-unfolding items All
-items-all f Q one zero p l end e = let x : [] ≡ l = cc in subst (All Q) x tt
-items-all f Q one (suc n) p l end e =
-    let t = then-read (f p) (λ a q. next (items f n q) (λ l end. read (a ∷ l) end)) (sym e) in
-    let u = then-read (items f n (t .place)) (λ l end. read (t .value ∷ l) end) (t .rest) in
-    let x : t .value ∷ u .value ≡ l = let r = u .rest in cc in
-    subst (All Q) x (one p (t .value) (t .place) (t .first), items-all f Q one n (t .place) (u .value) (u .place) (sym (u .first)))
 
 pub record Held {A : Type 0} (most : ℕ) (f : ℕ → Reading A) (l : Items) : Type 0 where
   pub end : ℕ
@@ -72,25 +59,6 @@ items-held : (k : Kind) (s : List ℕ) (p : ℕ) (l : Items) (end : ℕ) → rea
 items-held Https s p l end e = record { end = end; row = counted-row 4 (offer s) s p e }
 items-held Aaaa s p l end e = record { end = end; row = counted-row 8 (address Scoped s) s p e }
 items-held A s p l end e = record { end = end; row = counted-row 8 (address Four s) s p e }
-
--- the same inversion of fields that carry no place
-record GotThen {A B : Type 0} (r : Got A) (f : A → ℕ → Got B) (v : B) (end : ℕ) : Type 0 where
-  value : A
-  place : ℕ
-  first : got value place ≡ r
-  rest : got v end ≡ f value place
-
-got-then : {A B : Type 0} (r : Got A) (f : A → ℕ → Got B) {v : B} {end : ℕ} → got v end ≡ andThen r f → GotThen r f v end
-got-then (got a q) f e = record { value = a; place = q; first = refl; rest = e }
-got-then (refused n) f e = absurd (let z : _≡_ {A = ℕ} 0 1 = cc in omega arith)
-
-not-refused : {A : Type 0} (n : ℕ) (t : Bool) (w : A) (q : ℕ) {v : A} {end : ℕ} → got v end ≡ cond t (refused n) (got w q) → got v end ≡ got w q
-not-refused n true w q e = absurd (let z : _≡_ {A = ℕ} 0 1 = cc in omega arith)
-not-refused n false w q e = e
-
-only-got : {A : Type 0} (n : ℕ) (t : Bool) (w : A) (q : ℕ) {v : A} {end : ℕ} → got v end ≡ cond t (got w q) (refused n) → (t ≡ true) × (w ≡ v)
-only-got n true w q e = (refl, cc)
-only-got n false w q e = absurd (let z : _≡_ {A = ℕ} 0 1 = cc in omega arith)
 
 module _ (s : List ℕ) where
   -- whatever is read of it is heard
@@ -158,14 +126,6 @@ module _ (s : List ℕ) where
       let t = then-read (field p (bytesAt s 4 p)) (λ b end. read (record { hi = 0; lo = word s p; scope = 0 }) end) e in
       let x : record { hi = 0; lo = word s p; scope = 0 } ≡ a = let r = t .rest in cc in
       subst (λ a. formed A a ≡ true) x (all-more _ _ refl (all-more _ _ (lt-ltb (word s p) (2 ^ 32) (omega (arith, word-small s bytes p))) (all-more _ _ refl all-none)))
-
-  -- bytes that are kept fit their room
-  fit-cases : (room : ℕ) (b : Span) (t : Bool) → fits room s b ≡ t → length (kept room s b) ≤ room
-  fit-cases room b true e = let x = fits-there room s b e in rw (kept-there room s b e) (omega (arith, span-length s (b .start) (b .len) (x .1), x .0))
-  fit-cases room b false e = rw (kept-none room s b e) (omega arith)
-
-  pub kept-few : (room : ℕ) (b : Span) → length (kept room s b) ≤ room
-  kept-few room b = fit-cases room b (fits room s b) refl
 
   -- the name of a service, as it is kept
   abbrev pub NameHeard : Span → Type 0

@@ -2,13 +2,13 @@
 --     addresses-sound, services-sound   what comes beside an input
 --     event-sound, body-sound           an event, and a body
 use mathlib.Core.Path.{_≡_, refl, sym, ap, subst, _∙_}
-use mathlib.Core.Bool.{Bool, true, false, not, cond}
+use mathlib.Core.Bool.{Bool, true, false, not}
 use mathlib.Core.List.{List, [], _∷_, _++_, map}
 use Prim.Native.Nat.{ℕ, _+_, _-_, _≤_, _<_}
 use native.Mathlib.Omega.{arith}
-use lib.Dec.{leb, eqb}
+use lib.Dec.{leb}
 use lib.ListN.{length, getD, take, replicate, length-map}
-use borrow.Author.Tests.{leb-true, le-leb, lt-leb, eq-eqb}
+use borrow.Author.Tests.{le-leb, lt-leb, eq-eqb}
 use Rattle.numbers.specs.Names.{nameOk, longestName}
 use Rattle.records.specs.Lists.{padded}
 use Rattle.records.specs.Names.{noName, noEch, nameBytes}
@@ -17,34 +17,32 @@ use Rattle.records.specs.Services.{noHint, noService, noServices, hasEch}
 use Rattle.records.specs.declared.queries.Addr.{Addr}
 use Rattle.records.specs.declared.queries.Kind.{Kind}
 use Rattle.records.specs.declared.queries.Kind.the-variants.{Https, Aaaa, A}
-use Rattle.records.specs.declared.services.Service.{Service}
 use Rattle.records.proofs.Rooms.{padded-take}
 use Rattle.input.specs.declared.Input.{Input}
 use Rattle.machine.specs.declared.calls.Beside.{Beside}
 use Rattle.standing.specs.Lists.{_and_, _or_, all, every, everyAt}
 use Rattle.standing.specs.Standing.{zero?, emptyAddr, emptyHint, formed}
-use Rattle.standing.specs.Sound.{addressesSound, hintsSound, nameSound, echSound, sealed, servicesSound, answerSound, sound}
-use Rattle.parts.specs.Reading.{Reading, read, fault, next}
-use Rattle.parts.specs.Items.{items, found, listed}
+use Rattle.standing.specs.Sound.{addressesSound, hintsSound, nameSound, echSound, sealed, servicesSound, sound}
+use Rattle.parts.specs.Reading.{read}
+use Rattle.parts.specs.Items.{listed}
 use Rattle.parts.specs.Addresses.{address, addressesIn, low, halves, foursIn, sixesIn}
 use Rattle.parts.specs.Rooms.{kept, nameIn, echIn}
 use Rattle.parts.specs.declared.address.Form.the-variants.{Four, Six, Scoped}
 use Rattle.parts.specs.declared.address.Items.{Items}
 use Rattle.parts.proofs.Steps.{then-read}
-use Rattle.parts.proofs.Items.{items-length}
-use Rattle.parts.proofs.Copying.{name-back}
+use Rattle.parts.proofs.Items.{items-length, items-all, listed-few}
+use Rattle.parts.proofs.Copying.{kept-few, name-back}
 use Rattle.offers.specs.Offers.{offer, sealedAt, serviceOf, targetName, echFrom, targetEch, brought, noOffered, offeredIn}
 use Rattle.offers.specs.declared.EchSpan.{EchSpan}
 use Rattle.offers.specs.declared.EchSpan.the-variants.{Without, Sealed}
 use Rattle.offers.specs.declared.Offer.{Offer}
-use Rattle.offers.specs.declared.Offered.{Offered}
 use Rattle.bodies.specs.Events.{eventAt}
 use Rattle.bodies.specs.Told.{Told, call, fed, inputOf, besideOf, toldBy, readBody}
 use Rattle.bodies.specs.declared.Event.{Event}
 use Rattle.bodies.specs.declared.Event.the-variants as event
-use Rattle.written.specs.Written.{All}
+use Rattle.parts.specs.Written.{All}
 use Rattle.written.proofs.Tests.{both-hold, or-left, or-right, all-none, all-more, every-map, all-any, padded-length, padded-past, padded-every, at-zeros, at-map, at-pairs}
-use Rattle.written.proofs.Heard.{items-all, Heard, event-heard, four-formed, kept-few, NameHeard, offer-heard}
+use Rattle.written.proofs.Heard.{Heard, event-heard, four-formed, NameHeard, offer-heard}
 
 fed-sound : (i : Input) (b : Beside) → sound i b ≡ true → (j : Input) (c : Beside) → fed i b ≡ fed j c → sound j c ≡ true
 fed-sound i b h j c e =
@@ -78,20 +76,6 @@ addresses-sound k l n e h ok =
 no-addresses-sound : (k : Kind) → addressesSound k 0 noAddresses ≡ true
 unfolding noAddresses padded All
 no-addresses-sound k = addresses-sound k [] 0 refl (omega arith) tt
-
--- items that are listed are at most as many as there is room for
-module _ {A : Type 0} (most : ℕ) (f : ℕ → Reading A) where
-  found-few : (n p : ℕ) (r : Reading (List A)) → items f n p ≡ r → length (found r) ≤ n
-  found-few n p (read l end) e = omega (arith, items-length f n p l end e)
-  found-few n p (fault m q) e = omega arith
-
-  few-cases : (n p : ℕ) (t : Bool) → leb n most ≡ t → length (cond t (found (items f n p)) []) ≤ most
-  few-cases n p true e = omega (arith, leb-true n most e, found-few n p (items f n p) refl)
-  few-cases n p false e = omega arith
-
-  pub listed-few : (l : Items) → length (listed most f l) ≤ most
-  unfolding listed
-  listed-few l = few-cases (l .count) (l .first) (leb (l .count) most) refl
 
 -- a name, and ECH bytes, in their rooms
 name-sound : (n i : ℕ) (bs : List ℕ) → length bs ≤ longestName → nameOk bs ≡ true → i < n → nameSound n i (nameIn bs) ≡ true

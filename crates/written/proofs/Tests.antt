@@ -12,7 +12,7 @@ use lib.ListN.{length, getD, drop, replicate, length-append, length-replicate}
 use lib.Seq.{drop-at}
 use Rattle.records.specs.Lists.{padded}
 use Rattle.standing.specs.Lists.{_and_, _or_, all, every, everyAt}
-use Rattle.written.specs.Written.{All}
+use Rattle.parts.specs.Written.{All}
 
 pub both-hold : (a b : Bool) → a ≡ true → b ≡ true → (a and b) ≡ true
 unfolding _and_
