@@ -3,7 +3,8 @@
 --     a-call, an-input             what follows the kind
 --     answer-fails, answer-holds   what follows the flags of an answer
 --     more-follows, all-read       the end of a body
-use mathlib.Core.Path.{_≡_, sym, ap, _∙_}
+--     body-told, body-refused      what a body tells, by what was read of it
+use mathlib.Core.Path.{_≡_}
 use mathlib.Core.Bool.{cond}
 use mathlib.Core.List.{List}
 use Prim.Native.Nat.{ℕ, _%_, _≤_, _<_}
@@ -17,8 +18,9 @@ use Rattle.numbers.specs.Refusals.{outOfRange, trailing}
 use Rattle.numbers.proofs.Steps as numbers
 use Rattle.records.specs.declared.queries.Kind.{Kind}
 use Rattle.parts.specs.Reading.{Reading, read, fault, next}
-use Rattle.parts.proofs.Steps.{went-on, on-field}
+use Rattle.parts.proofs.Steps.{went-on, stopped, on-field}
 use Rattle.bodies.specs.Events.{itemsAt, answerAt, inputAt, kindAt, bodyAt, eventAt}
+use Rattle.bodies.specs.Told.{toldBy, readBody}
 use Rattle.bodies.specs.declared.Event.{Event}
 use Rattle.bodies.specs.declared.Event.the-variants as event
 
@@ -70,3 +72,12 @@ module _ (s : List ℕ) (v : Event) (end : ℕ) (e : read v end ≡ bodyAt s) wh
   pub all-read : length s ≤ end → read v end ≡ eventAt s
   unfolding eventAt at-end
   all-read h = simp (le-ltb end (length s) h) at (went-on at-end v end e)
+
+module _ (s : List ℕ) where
+  pub body-told : (v : Event) (end : ℕ) → read v end ≡ eventAt s → read (toldBy s v) end ≡ readBody s
+  unfolding readBody
+  body-told v end e = went-on (λ v end. read (toldBy s v) end) v end e
+
+  pub body-refused : (n p : ℕ) → fault n p ≡ eventAt s → fault n p ≡ readBody s
+  unfolding readBody
+  body-refused n p e = stopped (λ v end. read (toldBy s v) end) n p e

@@ -1,5 +1,5 @@
 -- Input bodies and the call, rules B.1, B.5 and B.7 (document 01, "Numbers and bodies"): what a body says, with its items and bytes where they stand.
-use mathlib.Core.Bool.{Bool, cond}
+use mathlib.Core.Bool.{cond}
 use Prim.Native.Nat.{ℕ, _%_}
 use mathlib.Core.List.{List}
 use lib.Dec.{ltb, leb, eqb}
@@ -8,7 +8,6 @@ use Rattle.numbers.specs.Got.{Got, got, refused, andThen}
 use Rattle.numbers.specs.Fields.{atMost, bytesAt}
 use Rattle.numbers.specs.Numbers.{readNumber}
 use Rattle.numbers.specs.Refusals.{outOfRange, tooMany, trailing}
-use Rattle.records.specs.Numbers.{inputKind}
 use Rattle.records.specs.declared.queries.Kind.{Kind}
 use Rattle.records.specs.declared.queries.Kind.the-variants.{Https, Aaaa, A}
 use Rattle.parts.specs.Reading.{Reading, read, fault, next, field}

@@ -1,12 +1,12 @@
 -- Services of an HTTPS answer.
 --     ech-none, ech-some            the ECH field, by what its number says
 --     offered-none, offered-all     the rooms of services that can't be read, and of those that are filled
-use mathlib.Core.Path.{_≡_, sym, ap, _∙_}
+use mathlib.Core.Path.{_≡_}
 use mathlib.Core.Bool.{cond}
 use mathlib.Core.List.{List, [], map}
 use Prim.Native.Nat.{ℕ, _-_}
 use lib.Dec.{eqb}
-use lib.ListN.{length, replicate}
+use lib.ListN.{length}
 use borrow.Author.Tests.{eq-eqb, ne-eqb}
 use Rattle.numbers.specs.Got.{got}
 use Rattle.numbers.specs.Fields.{atMost, bytesAt}

@@ -16,8 +16,6 @@ use Rattle.records.specs.declared.names.EchPlace.{EchPlace}
 use Rattle.records.specs.declared.names.EchPlace.the-variants as place
 use Rattle.records.specs.declared.names.Name.{Name}
 use Rattle.records.specs.declared.services.Service.{Service}
-use Rattle.machine.specs.declared.after.TargetNames.{TargetNames}
-use Rattle.machine.specs.declared.after.TargetEchs.{TargetEchs}
 use Rattle.parts.specs.Reading.{Reading, read, next, field}
 use Rattle.parts.specs.Items.{counted, listed}
 use Rattle.parts.specs.Addresses.{address, foursIn, sixesIn}

@@ -2,11 +2,11 @@
 --     four-small                       an IPv4 address has 32 bits
 --     addresses-none, addresses-all    the room of a row that can't be read, and of one that is filled
 --     fours-none, fours-all, sixes-none, sixes-all   the same of hints
-use mathlib.Core.Path.{_≡_, refl, sym, ap, _∙_}
+use mathlib.Core.Path.{_≡_, ap, _∙_}
 use mathlib.Core.List.{List, [], map, map-id}
-use Prim.Native.Nat.{ℕ, _+_, _*_, _<_}
+use Prim.Native.Nat.{ℕ, _+_, _<_}
 use native.Mathlib.Omega.{arith}
-use lib.ListN.{length, getD, replicate}
+use lib.ListN.{length, getD}
 use Rattle.numbers.specs.Fields.{bytesAt}
 use Rattle.records.specs.Lists.{padded}
 use Rattle.records.specs.Queries.{noAddr, noAddresses}

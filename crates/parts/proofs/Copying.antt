@@ -2,17 +2,18 @@
 --     fits-there            bytes that fit lie in the body
 --     copy-more, copy-end   a loop that copies: one byte more, none left
 --     kept-there, kept-none what is kept of the bytes
+--     kept-few              what is kept fits its room
 --     name-back, ech-back   the bytes in a room are those that were copied
 use mathlib.Core.Path.{_≡_, refl, sym, ap, _∙_}
 use mathlib.Core.Bool.{Bool, true, false, cond, _&&_}
-use mathlib.Core.List.{List, [], _∷_, _++_}
-use Prim.Native.Nat.{ℕ, suc, _+_, _-_, _≤_, _<_, min}
+use mathlib.Core.List.{List, [], _∷_}
+use Prim.Native.Nat.{ℕ, suc, _+_, _-_, _≤_, _<_}
 use native.Mathlib.Numerals.{add-one}
 use native.Mathlib.Omega.{arith}
 use lib.Dec.{leb}
 use lib.ListN.{length, take, drop, getD, set, replicate, length-take, length-drop, drop-of-length-le}
 use lib.Seq.{sets, drop-cons, getD-take, getD-drop, take-at}
-use borrow.Author.Tests.{leb-true, le-leb}
+use borrow.Author.Tests.{leb-true}
 use Rattle.numbers.specs.Fields.{spanBytes}
 use Rattle.numbers.specs.declared.field.Span.{Span}
 use Rattle.records.specs.Lists.{padded}
@@ -68,3 +69,12 @@ name-back bs = take-at bs (replicate (253 - length bs) 0) (length bs) refl
 pub ech-back : (bs : List ℕ) → echBytes (echIn bs) ≡ bs
 unfolding echBytes echIn padded
 ech-back bs = take-at bs (replicate (512 - length bs) 0) (length bs) refl
+
+module _ (s : List ℕ) where
+  -- bytes that are kept fit their room
+  fit-cases : (room : ℕ) (b : Span) (t : Bool) → fits room s b ≡ t → length (kept room s b) ≤ room
+  fit-cases room b true e = let x = fits-there room s b e in rw (kept-there room s b e) (omega (arith, span-length s (b .start) (b .len) (x .1), x .0))
+  fit-cases room b false e = rw (kept-none room s b e) (omega arith)
+
+  pub kept-few : (room : ℕ) (b : Span) → length (kept room s b) ≤ room
+  kept-few room b = fit-cases room b (fits room s b) refl

@@ -2,14 +2,12 @@
 --     fill-start, fill-more, fill-none, fill-end   a loop that stores: at its start, one item more, one refused, none left
 --     fill-over                                    more items than there is room for
 use mathlib.Core.Path.{_≡_, refl, sym, ap, _∙_}
-use mathlib.Core.Bool.{cond}
 use mathlib.Core.List.{List, [], _∷_, _++_, map}
 use Prim.Native.Nat.{ℕ, zero, suc, _+_, _-_, _≤_, _<_}
 use native.Mathlib.Nat.{zero-add}
 use native.Mathlib.Numerals.{add-one}
 use native.Mathlib.Omega.{arith}
-use lib.Dec.{leb}
-use lib.ListN.{length, take, drop, set, replicate, length-replicate, length-map}
+use lib.ListN.{length, drop, set, replicate, length-replicate, length-map}
 use lib.Seq.{sets, sets-eq}
 use borrow.Author.Tests.{le-leb, lt-leb}
 use Rattle.records.specs.Lists.{padded}

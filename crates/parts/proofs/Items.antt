@@ -1,23 +1,26 @@
 -- Items read in a row, over any item.
 --     items-more, items-none           the first of the items that are left
 --     items-length                     as many as were asked for
+--     items-all                        what is so of each item that is read
+--     listed-few                       what is listed fits its room
 --     pass-start, -more, -none, -end   a loop that keeps the place only: at its start, one item more, one refused, none left
 --     Row, counted-row                 what a count and its items are known by: all read, and at most so many
 use mathlib.Core.Path.{_≡_, refl, sym, ap, subst, _∙_}
-use mathlib.Core.Bool.{cond}
+use mathlib.Core.Bool.{Bool, true, false, cond}
 use mathlib.Core.List.{List, [], _∷_}
 use Prim.Native.Nat.{ℕ, zero, suc, _+_, _-_, _≤_, _<_}
 use native.Mathlib.Omega.{arith}
 use lib.Dec.{leb}
 use lib.ListN.{length}
-use borrow.Author.Tests.{le-leb}
+use borrow.Author.Tests.{leb-true, le-leb}
 use Rattle.numbers.specs.Fields.{atMost}
 use Rattle.numbers.specs.Numbers.{readNumber}
 use Rattle.numbers.specs.Refusals.{tooMany}
 use Rattle.parts.specs.Reading.{Reading, read, fault, next, field}
 use Rattle.parts.specs.Items.{items, past, counted, found, listed}
+use Rattle.parts.specs.Written.{All}
 use Rattle.parts.specs.declared.address.Items.{Items}
-use Rattle.parts.proofs.Steps.{Then, then-read, field-read, within}
+use Rattle.parts.proofs.Steps.{then-read, field-read, within}
 
 past-tail : {A : Type 0} (a : A) (r : Reading (List A)) → past (next r (λ l end. read (a ∷ l) end)) ≡ past r
 past-tail a (read l end) = refl
@@ -83,3 +86,27 @@ module _ {A : Type 0} (most : ℕ) (f : ℕ → Reading A) (s : List ℕ) where
   counted-row p {l} {end} e =
       let t = then-read (field p (atMost most tooMany (readNumber s p))) (λ n first. next (past (items f n first)) (λ t end. read (record { count = n; first = first }) end)) e in
       row (t .value) (t .place) (within most tooMany (readNumber s p) (field-read p (atMost most tooMany (readNumber s p)) (t .first))) (t .rest)
+
+pub items-all : {A : Type 0} (f : ℕ → Reading A) (Q : A → Type 0) → ((p : ℕ) (a : A) (q : ℕ) → read a q ≡ f p → Q a)
+    → (n p : ℕ) (l : List A) (end : ℕ) → items f n p ≡ read l end → All Q l
+unfolding items All
+items-all f Q one zero p l end e = let x : [] ≡ l = cc in subst (All Q) x tt
+items-all f Q one (suc n) p l end e =
+    let t = then-read (f p) (λ a q. next (items f n q) (λ l end. read (a ∷ l) end)) (sym e) in
+    let u = then-read (items f n (t .place)) (λ l end. read (t .value ∷ l) end) (t .rest) in
+    let x : t .value ∷ u .value ≡ l = let r = u .rest in cc in
+    subst (All Q) x (one p (t .value) (t .place) (t .first), items-all f Q one n (t .place) (u .value) (u .place) (sym (u .first)))
+
+-- items that are listed are at most as many as there is room for
+module _ {A : Type 0} (most : ℕ) (f : ℕ → Reading A) where
+  found-few : (n p : ℕ) (r : Reading (List A)) → items f n p ≡ r → length (found r) ≤ n
+  found-few n p (read l end) e = omega (arith, items-length f n p l end e)
+  found-few n p (fault m q) e = omega arith
+
+  few-cases : (n p : ℕ) (t : Bool) → leb n most ≡ t → length (cond t (found (items f n p)) []) ≤ most
+  few-cases n p true e = omega (arith, leb-true n most e, found-few n p (items f n p) refl)
+  few-cases n p false e = omega arith
+
+  pub listed-few : (l : Items) → length (listed most f l) ≤ most
+  unfolding listed
+  listed-few l = few-cases (l .count) (l .first) (leb (l .count) most) refl

@@ -5,3 +5,6 @@ pub mod Filling
 pub mod Copying
 pub mod Addresses
 pub mod Fields
+pub mod Back
+pub mod AddressBack
+pub mod FieldBack

@@ -2,6 +2,7 @@
 --     went-on, stopped      what comes first was read, or has a fault
 --     on-field, off-field   the same of one field
 --     Then, then-read       inversion: what was read in a chain was read step by step
+--     GotThen, got-then, not-refused, only-got   the same of fields without a place
 --     within                a number that was read is at most its limit
 --     not-this, only-this   a test that refuses was passed
 use mathlib.Core.Path.{_≡_, refl, sym, ap, _∙_}
@@ -9,7 +10,7 @@ use mathlib.Core.Bool.{Bool, true, false, cond}
 use mathlib.Core.Logic.{⊎-elim}
 use Prim.Native.Nat.{ℕ, _≤_, _<_}
 use native.Mathlib.Omega.{arith}
-use Rattle.numbers.specs.Got.{Got, got, refused}
+use Rattle.numbers.specs.Got.{Got, got, refused, andThen}
 use Rattle.numbers.specs.Fields.{atMost}
 use Rattle.numbers.proofs.Cases.{less-or-not}
 use Rattle.numbers.proofs.Steps.{at-most, over}
@@ -60,3 +61,22 @@ module _ {A : Type 0} (n p : ℕ) where
   pub only-this : (t : Bool) (w : A) (q : ℕ) {v : A} {end : ℕ} → read v end ≡ cond t (read w q) (fault n p) → read v end ≡ read w q
   only-this true w q e = e
   only-this false w q e = absurd (let z : _≡_ {A = ℕ} 0 1 = cc in omega arith)
+
+-- the same inversion of fields that carry no place
+pub record GotThen {A B : Type 0} (r : Got A) (f : A → ℕ → Got B) (v : B) (end : ℕ) : Type 0 where
+  pub value : A
+  pub place : ℕ
+  pub first : got value place ≡ r
+  pub rest : got v end ≡ f value place
+
+pub got-then : {A B : Type 0} (r : Got A) (f : A → ℕ → Got B) {v : B} {end : ℕ} → got v end ≡ andThen r f → GotThen r f v end
+got-then (got a q) f e = record { value = a; place = q; first = refl; rest = e }
+got-then (refused n) f e = absurd (let z : _≡_ {A = ℕ} 0 1 = cc in omega arith)
+
+pub not-refused : {A : Type 0} (n : ℕ) (t : Bool) (w : A) (q : ℕ) {v : A} {end : ℕ} → got v end ≡ cond t (refused n) (got w q) → got v end ≡ got w q
+not-refused n true w q e = absurd (let z : _≡_ {A = ℕ} 0 1 = cc in omega arith)
+not-refused n false w q e = e
+
+pub only-got : {A : Type 0} (n : ℕ) (t : Bool) (w : A) (q : ℕ) {v : A} {end : ℕ} → got v end ≡ cond t (got w q) (refused n) → (t ≡ true) × (w ≡ v)
+only-got n true w q e = (refl, cc)
+only-got n false w q e = absurd (let z : _≡_ {A = ℕ} 0 1 = cc in omega arith)

@@ -4,3 +4,4 @@ pub mod Addresses
 pub mod Fields
 pub mod Rooms
 pub mod Shown
+pub mod Written

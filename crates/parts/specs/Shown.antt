@@ -1,5 +1,4 @@
 -- What the code's answers show: document 01's numbers with their places, and plain values.
-use Prim.Native.Nat.{ℕ}
 use Rattle.numbers.specs.Refusals.{refusalNumber}
 use Rattle.records.specs.declared.queries.Addr.{Addr}
 use Rattle.records.specs.declared.rules.Port.{Port}

@@ -1,40 +1,34 @@
 -- Services that are written are read back.
---     name-back, ech-back                 a name and an ECH field
+--     ech-back                            an ECH field
 --     head-back, way-back, hints-back     the parts of a service
 --     entry-back                          a service
-use mathlib.Core.Path.{_≡_, refl, sym, ap, subst, _∙_}
-use mathlib.Core.Bool.{Bool, true, false, cond}
-use mathlib.Core.List.{List, [], _∷_, _++_, map, map-id}
+use mathlib.Core.Path.{_≡_, refl, sym, ap, _∙_}
+use mathlib.Core.List.{List, _++_, map-id}
 use mathlib.Core.Option.{Option, none, some}
-use Prim.Native.Nat.{ℕ, _+_, _-_, _*_, _^_, _≤_, _<_}
+use Prim.Native.Nat.{ℕ, _+_, _-_, _^_, _<_}
 use native.Mathlib.Omega.{arith}
-use lib.Dec.{leb}
 use lib.ListN.{length, length-append}
-use borrow.Author.Tests.{le-leb}
-use Rattle.numbers.specs.Got.{got, refused}
-use Rattle.numbers.specs.Fields.{bytesAt, spanBytes, nameLength, named, nameAt}
-use Rattle.numbers.specs.Names.{nameOk, longestName, undotted, labels, last, labelOk, labelsOk, every}
-use Rattle.numbers.specs.Numbers.{readNumber, numberBytes}
-use Rattle.numbers.specs.Refusals.{outOfRange, tooMany, badName}
+use Rattle.numbers.specs.Fields.{bytesAt}
+use Rattle.numbers.specs.Names.{longestName}
+use Rattle.numbers.specs.Numbers.{numberBytes}
+use Rattle.numbers.specs.Refusals.{outOfRange, tooMany}
 use Rattle.numbers.specs.declared.field.Span.{Span}
-use Rattle.numbers.proofs.Steps as numbers
 use Rattle.records.specs.Lists.{padded}
 use Rattle.records.specs.Services.{noHint}
 use Rattle.records.specs.declared.queries.Addr.{Addr}
-use Rattle.records.specs.declared.rules.Port.{Port}
-use Rattle.records.specs.declared.rules.Port.the-variants as port
-use Rattle.records.specs.declared.rules.Versions.{Versions}
 use Rattle.records.specs.declared.services.Hint.{Hint}
 use Rattle.parts.specs.Reading.{read, next, field}
 use Rattle.parts.specs.Items.{counted, listed}
 use Rattle.parts.specs.Addresses.{address, low, halves, foursIn, sixesIn}
 use Rattle.parts.specs.Fields.{versionsOf, versionsAt, portOf, portAt}
-use Rattle.parts.specs.Rooms.{fits, kept, nameIn, echIn}
+use Rattle.parts.specs.Rooms.{kept, nameIn, echIn}
 use Rattle.parts.specs.declared.address.Form.the-variants.{Four, Six}
 use Rattle.parts.specs.declared.address.Items.{Items}
+use Rattle.parts.specs.Written.{FitsHint, versionsNumber, portNumber, namedBytes, rowBytes, wordBytes, sixBytes, fourAddr}
 use Rattle.parts.proofs.Steps.{went-on, on-field}
-use Rattle.parts.proofs.Copying.{kept-there}
-use Rattle.parts.proofs.Fields.{own-port}
+use Rattle.parts.proofs.Back.{There, there-left, there-right, most-back, limited-back, bytes-back, Back, Each, each-length, each-map, counted-back}
+use Rattle.parts.proofs.AddressBack.{four-back, six-back}
+use Rattle.parts.proofs.FieldBack.{versions-small, versions-back, port-back, kept-back, field-back}
 use Rattle.offers.specs.Offers.{head, ech, way, hints, offer, sealedAt, serviceOf, targetName, echFrom, targetEch}
 use Rattle.offers.specs.declared.EchSpan.{EchSpan}
 use Rattle.offers.specs.declared.EchSpan.the-variants.{Without, Sealed}
@@ -43,95 +37,20 @@ use Rattle.offers.specs.declared.Way.{Way}
 use Rattle.offers.specs.declared.Hints.{Hints}
 use Rattle.offers.specs.declared.Offer.{Offer}
 use Rattle.offers.proofs.OfferLaws.{ech-none, ech-some}
-use Rattle.written.specs.Written.{Entry, FitsEntry, FitsEch, FitsHint, bit, versionsNumber, portNumber, echBytes, nameBytes, headBytes, wayBytes, hintsBytes, entryBytes, rowBytes, wordBytes, sixBytes, fourAddr, placeOf, echOf, service, nameOf, sealOf}
-use Rattle.written.proofs.Back.{There, there-left, there-right, there-length, most-back, limited-back, bytes-back, span-back, Back, Each, each-length, each-map, counted-back}
-use Rattle.written.proofs.AddressBack.{four-back, six-back}
-
--- an empty name is none
-not-empty : (bs : List ℕ) → nameOk bs ≡ true → length bs ≡ 0 → ⊥
-unfolding nameOk labelsOk labels undotted labelOk every
-not-empty [] e z = let w : _≡_ {A = ℕ} 0 1 = ap (λ t. cond t 1 0) e in omega arith
-not-empty (b ∷ bs) e z = omega arith
-
-bit-small : (b : Bool) → bit b ≤ 1
-bit-small true = omega arith
-bit-small false = omega arith
-
-versions-small : (v : Versions) → versionsNumber v ≤ 7
-unfolding versionsNumber
-versions-small v = omega (arith, bit-small (v .h3), bit-small (v .h2), bit-small (v .h1))
-
-versions-bits : (a b c : Bool) → versionsOf (bit a + 2 * bit b + 4 * bit c) ≡ record { h3 = a; h2 = b; h1 = c }
-unfolding versionsOf
-versions-bits true true true = refl
-versions-bits true true false = refl
-versions-bits true false true = refl
-versions-bits true false false = refl
-versions-bits false true true = refl
-versions-bits false true false = refl
-versions-bits false false true = refl
-versions-bits false false false = refl
-
-versions-back : (v : Versions) → versionsOf (versionsNumber v) ≡ v
-unfolding versionsNumber
-versions-back v = versions-bits (v .h3) (v .h2) (v .h1)
-
-port-back : (x : Port) → portOf (portNumber x) ≡ x
-unfolding portOf
-port-back port.Origin = refl
-port-back (port.Own p) = let e : p + 1 - 1 ≡ p = omega arith in sym (own-port (p + 1) (λ z. omega arith)) ∙ ap port.Own e
+use Rattle.written.specs.Written.{Entry, FitsEntry, FitsEch, echBytes, headBytes, wayBytes, hintsBytes, entryBytes, placeOf, echOf, service, nameOf, sealOf}
 
 module _ (s : List ℕ) where
-  -- bytes that stand in the body and fit their room are kept
-  pub kept-back : (room p : ℕ) (bs : List ℕ) → length bs ≤ room → There s p bs → kept room s (record { start = p; len = length bs }) ≡ bs
-  unfolding fits
-  kept-back room p bs h t =
-      kept-there room s (record { start = p; len = length bs }) (simp (le-leb (length bs) room h, le-leb (p + length bs) (length s) (there-length s p bs t)))
-      ∙ span-back s p bs t
-
-  module _ (p : ℕ) (bs : List ℕ) (ok : nameOk bs ≡ true) (short : length bs ≤ longestName) (t : There s p (nameBytes bs)) where
-    name-start : ℕ
-    name-start = p + length (numberBytes (length bs))
-
-    name-there : There s name-start bs
-    unfolding nameBytes name-start
-    name-there = there-right s p (numberBytes (length bs)) bs t
-
-    name-end : name-start + length bs ≡ p + length (nameBytes bs)
-    unfolding nameBytes name-start
-    name-end = omega (arith, length-append (numberBytes (length bs)) bs)
-
-    name-long : got (length bs) name-start ≡ nameLength longestName (readNumber s p)
-    unfolding nameBytes name-start
-    name-long =
-        numbers.some-length (readNumber s p) longestName (length bs) name-start
-        (most-back s p longestName tooMany (length bs) short (omega arith) (there-left s p (numberBytes (length bs)) bs t)) (not-empty bs ok)
-
-    name-named : got (record { start = name-start; len = length bs }) (name-start + length bs) ≡ named s (length bs) name-start
-    unfolding named
-    name-named =
-        simp (ap nameOk (span-back s name-start bs name-there) ∙ ok)
-        at (numbers.went-on (λ b q. cond (nameOk (spanBytes s b)) (got b q) (refused badName)) (record { start = name-start; len = length bs }) (name-start + length bs) (bytes-back s name-start bs name-there))
-
-    pub name-back : Back (field p (nameAt s longestName p)) (p + length (nameBytes bs)) (λ b. kept longestName s b ≡ bs)
-    unfolding nameAt
-    name-back = record {
-      value = record { start = name-start; len = length bs };
-      reads = ap (read (record { start = name-start; len = length bs })) (sym name-end) ∙ on-field p (name-named ∙ numbers.went-on (named s) (length bs) name-start name-long);
-      right = kept-back longestName name-start bs short name-there;
-    }
-
   pub head-back : (p : ℕ) (x : Entry) → FitsEntry x → There s p (headBytes x)
       → Back (head s p) (p + length (headBytes x)) (λ h. (h .priority ≡ x .priority) × (kept longestName s (h .name) ≡ x .name) × (h .versions ≡ x .versions))
   unfolding head headBytes versionsAt
   head-back p x ok t =
       let n = numberBytes (x .priority) in
       let v = numberBytes (versionsNumber (x .versions)) in
-      let m = nameBytes (x .name) in
+      let m = namedBytes (x .name) in
       let t1 = there-right s p n (m ++ v) t in
       let q = p + length n in
       let a = limited-back s p 65535 outOfRange (x .priority) (let h = ok .priority in omega arith) (omega arith) (there-left s p n (m ++ v) t) in
-      let b = name-back q (x .name) (ok .name) (ok .short) (there-left s q m v t1) in
+      let b = field-back s q (x .name) (ok .name) (ok .short) (there-left s q m v t1) in
       let r = q + length m in
       let c = limited-back s r 7 outOfRange (versionsNumber (x .versions)) (versions-small (x .versions)) (omega arith) (there-right s q m v t1) in
       let e : r + length v ≡ p + length (n ++ (m ++ v)) = omega (arith, length-append n (m ++ v), length-append m v) in
@@ -168,7 +87,7 @@ module _ (s : List ℕ) where
             ap (read (Sealed b)) (sym e)
             ∙ went-on (λ b end. read (Sealed b) end) b (q + length bs) (on-field q (bytes-back s q bs u) ∙ ap (λ k. field q (bytesAt s k q)) k)
             ∙ ech-some s p (length bs + 1) q a (λ z. omega arith);
-        right = (refl, ap echIn (kept-back 512 q bs ok u));
+        right = (refl, ap echIn (kept-back s 512 q bs ok u));
       }
 
   pub way-back : (p : ℕ) (x : Entry) → FitsEntry x → There s p (wayBytes x) → Back (way s p) (p + length (wayBytes x)) (λ w. (w .port ≡ x .port) × EchRight (x .ech) (w .ech))

@@ -3,13 +3,13 @@
 use mathlib.Core.Path.{_≡_, refl, sym, ap, subst, _∙_}
 use mathlib.Core.Bool.{Bool, true, false}
 use mathlib.Core.List.{List, [], _++_, map, map-id}
-use Prim.Native.Nat.{ℕ, _+_, _%_, _^_, _≤_, _<_}
+use Prim.Native.Nat.{ℕ, _+_, _%_, _^_, _<_}
 use native.Mathlib.Omega.{arith}
 use lib.Dec.{eqb}
 use lib.ListN.{length, length-append}
 use Rattle.numbers.specs.Got.{got}
-use Rattle.numbers.specs.Fields.{atMost, bytesAt}
-use Rattle.numbers.specs.Numbers.{readNumber, numberBytes}
+use Rattle.numbers.specs.Fields.{bytesAt}
+use Rattle.numbers.specs.Numbers.{numberBytes}
 use Rattle.numbers.specs.Refusals.{outOfRange, tooMany}
 use Rattle.records.specs.Lists.{padded}
 use Rattle.records.specs.Numbers.{inputKind}
@@ -20,29 +20,30 @@ use Rattle.records.specs.declared.queries.Addr.{Addr}
 use Rattle.records.specs.declared.queries.Kind.{Kind}
 use Rattle.records.specs.declared.queries.Kind.the-variants.{Https, Aaaa, A}
 use Rattle.input.specs.declared.Input.the-variants as input
-use Rattle.parts.specs.Reading.{Reading, read, next, field}
-use Rattle.parts.specs.Items.{counted, listed}
+use Rattle.parts.specs.Reading.{read, next, field}
+use Rattle.parts.specs.Items.{listed}
 use Rattle.parts.specs.Addresses.{address, addressesIn}
 use Rattle.parts.specs.Rooms.{kept, echIn}
 use Rattle.parts.specs.declared.address.Form.the-variants.{Four, Scoped}
 use Rattle.parts.specs.declared.address.Items.{Items}
 use Rattle.parts.proofs.Steps.{went-on, on-field}
 use Rattle.offers.specs.Offers.{offer, serviceOf, targetName, targetEch, brought, noOffered, offeredIn}
-use Rattle.bodies.specs.Events.{itemsAt, answerAt, retryAt, restAt, inputAt, kindAt, bodyAt, eventAt}
+use Rattle.bodies.specs.Events.{itemsAt, answerAt, retryAt, restAt, inputAt, kindAt, bodyAt}
 use Rattle.bodies.specs.Told.{Told, fed, besideOf, toldBy, readBody}
 use Rattle.bodies.specs.declared.Event.{Event}
 use Rattle.bodies.specs.declared.Event.the-variants as event
-use Rattle.bodies.proofs.EventLaws.{some-kind, a-call, an-input, answer-fails, answer-holds, all-read}
-use Rattle.written.specs.Written.{Entry, Sent, call, failed, scoped, fours, entries, success, failure, retry, written, Fits, All, FitsAddr, FitsEntry, told, bit, rowBytes, scopedBytes, wordBytes, entryBytes, fourAddr, service, nameOf, sealOf, offering, beside}
-use Rattle.written.proofs.Back.{append-none, There, there-all, there-left, there-right, number-back, most-back, limited-back, bytes-back, Back, Each, each-length, each-map, counted-back}
-use Rattle.written.proofs.AddressBack.{four-back, scoped-back}
-use Rattle.written.proofs.EntryBack.{kept-back, EntryRight, entry-back}
+use Rattle.bodies.proofs.EventLaws.{some-kind, a-call, an-input, answer-fails, answer-holds, all-read, body-told}
+use Rattle.parts.specs.Written.{FitsAddr, bit, rowBytes, scopedBytes, wordBytes, fourAddr}
+use Rattle.written.specs.Written.{Entry, Sent, call, failed, scoped, fours, entries, success, failure, retry, written, Fits, FitsEntry, told, entryBytes, service, nameOf, sealOf, offering, beside}
+use Rattle.parts.proofs.Back.{append-none, There, there-all, there-left, there-right, number-back, most-back, limited-back, bytes-back, Each, each-length, each-map, counted-back}
+use Rattle.parts.proofs.FieldBack.{kept-back}
+use Rattle.parts.proofs.AddressBack.{four-back, scoped-back}
+use Rattle.written.proofs.EntryBack.{EntryRight, entry-back}
 
 -- what is read of the whole body
 module _ (s : List ℕ) (e : Event) (v : Told) where
   whole-back : read e (length s) ≡ bodyAt s → toldBy s e ≡ v → readBody s ≡ read v (length s)
-  unfolding readBody
-  whole-back b t = sym (ap (λ u. read u (length s)) (sym t) ∙ went-on (λ e end. read (toldBy s e) end) e (length s) (all-read s e (length s) b (omega arith)))
+  whole-back b t = sym (body-told s e (length s) (all-read s e (length s) b (omega arith))) ∙ ap (λ u. read u (length s)) t
 
 -- kind and id
 abbrev bodyOf : (k id : ℕ) → List ℕ → List ℕ

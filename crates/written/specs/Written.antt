@@ -1,14 +1,14 @@
 -- Bodies as a host writes them, rules B.5 to B.7 (document 01, "Numbers and bodies"): the bytes of an event in plain values, and what it tells.
 -- proofs/ReadBack.antt has the law: what is written is read back.
-use Prim.Native.Nat.{ℕ, _+_, _*_, _/_, _%_, _^_, _≤_, _<_}
+use Prim.Native.Nat.{ℕ, _+_, _^_, _≤_, _<_}
 use mathlib.Core.Path.{_≡_}
-use mathlib.Core.Bool.{Bool, true, cond}
-use mathlib.Core.List.{List, [], _∷_, _++_, map}
+use mathlib.Core.Bool.{Bool, true}
+use mathlib.Core.List.{List, _++_, map}
 use mathlib.Core.Option.{Option, none, some}
 use lib.ListN.{length}
 use Rattle.numbers.specs.Names.{nameOk, longestName}
 use Rattle.numbers.specs.Numbers.{numberBytes}
-use Rattle.records.specs.Lists.{each, padded}
+use Rattle.records.specs.Lists.{padded}
 use Rattle.records.specs.Names.{noName, noEch}
 use Rattle.records.specs.Numbers.{inputKind}
 use Rattle.records.specs.Queries.{noAddr, noAddresses}
@@ -22,38 +22,17 @@ use Rattle.records.specs.declared.queries.Addresses.{Addresses}
 use Rattle.records.specs.declared.queries.Kind.{Kind}
 use Rattle.records.specs.declared.queries.Kind.the-variants.{Https, Aaaa, A}
 use Rattle.records.specs.declared.rules.Port.{Port}
-use Rattle.records.specs.declared.rules.Port.the-variants as port
 use Rattle.records.specs.declared.rules.Versions.{Versions}
 use Rattle.records.specs.declared.services.Hint.{Hint}
 use Rattle.records.specs.declared.services.Service.{Service}
 use Rattle.input.specs.declared.Input.the-variants as input
 use Rattle.machine.specs.declared.calls.Beside.{Beside}
 use Rattle.parts.specs.Rooms.{nameIn, echIn}
+use Rattle.parts.specs.Written.{wordBytes, sixBytes, scopedBytes, rowBytes, bit, versionsNumber, portNumber, namedBytes, All, FitsHint, FitsAddr, fourAddr}
 use Rattle.offers.specs.Offers.{noOffered}
 use Rattle.offers.specs.declared.Offered.{Offered}
 use Rattle.bodies.specs.Told as body
 use Rattle.bodies.specs.Told.{Told, fed}
-
--- Addresses: 4 bytes, the highest first; 16 bytes; a scope after them
-
-unfoldable pub wordBytes : ℕ → List ℕ
-wordBytes x = x / 16777216 ∷ x / 65536 % 256 ∷ x / 256 % 256 ∷ x % 256 ∷ []
-
-unfoldable pub longBytes : ℕ → List ℕ
-longBytes x = wordBytes (x / 4294967296) ++ wordBytes (x % 4294967296)
-
-unfoldable pub sixBytes : Hint → List ℕ
-sixBytes h = longBytes (h .hi) ++ longBytes (h .lo)
-
-abbrev pub unscoped : Addr → Hint
-unscoped a = record { hi = a .hi; lo = a .lo }
-
-unfoldable pub scopedBytes : Addr → List ℕ
-scopedBytes a = sixBytes (unscoped a) ++ numberBytes (a .scope)
-
--- a count and so many items
-unfoldable pub rowBytes : {A : Type 0} → (A → List ℕ) → List A → List ℕ
-rowBytes w l = numberBytes (length l) ++ each w l
 
 -- A service
 
@@ -66,25 +45,12 @@ pub record Entry : Type 0 where
   pub fours : List ℕ
   pub sixes : List Hint
 
-abbrev pub bit : Bool → ℕ
-bit b = cond b 1 0
-
-unfoldable pub versionsNumber : Versions → ℕ
-versionsNumber v = bit (v .h3) + 2 * bit (v .h2) + 4 * bit (v .h1)
-
-abbrev pub portNumber : Port → ℕ
-portNumber port.Origin = 0
-portNumber (port.Own p) = p + 1
-
 abbrev pub echBytes : Option (List ℕ) → List ℕ
 echBytes none = numberBytes 0
 echBytes (some bs) = numberBytes (length bs + 1) ++ bs
 
-unfoldable pub nameBytes : List ℕ → List ℕ
-nameBytes bs = numberBytes (length bs) ++ bs
-
 unfoldable pub headBytes : Entry → List ℕ
-headBytes x = numberBytes (x .priority) ++ (nameBytes (x .name) ++ numberBytes (versionsNumber (x .versions)))
+headBytes x = numberBytes (x .priority) ++ (namedBytes (x .name) ++ numberBytes (versionsNumber (x .versions)))
 
 unfoldable pub wayBytes : Entry → List ℕ
 wayBytes x = numberBytes (portNumber (x .port)) ++ echBytes (x .ech)
@@ -119,18 +85,6 @@ written (retry id bs) = numberBytes 6 ++ (numberBytes id ++ (numberBytes (length
 
 -- Which values a body has room for
 
-unfoldable pub All : {A : Type 0} → (A → Type 0) → List A → Type 0
-All P [] = Unit {0}
-All P (x ∷ xs) = P x × All P xs
-
-pub record FitsHint (h : Hint) : Type 0 where
-  pub hi : h .hi < 2 ^ 64
-  pub lo : h .lo < 2 ^ 64
-
-pub record FitsAddr (a : Addr) : Type 0 where
-  pub halves : FitsHint (unscoped a)
-  pub scope : a .scope < 2 ^ 32
-
 abbrev pub FitsEch : Option (List ℕ) → Type 0
 FitsEch none = Unit {0}
 FitsEch (some bs) = length bs ≤ 512
@@ -157,9 +111,6 @@ Fits (failure id) = id < 2 ^ 64
 Fits (retry id bs) = (id < 2 ^ 64) × (length bs ≤ 512)
 
 -- What they tell
-
-abbrev pub fourAddr : ℕ → Addr
-fourAddr x = record { hi = 0; lo = x; scope = 0 }
 
 abbrev pub placeOf : Option (List ℕ) → EchPlace
 placeOf none = place.Without

@@ -1,7 +1,4 @@
 -- `parts::address::no_sixes` meets its contract.
-use mathlib.Core.Path.{ap}
-use lib.ListN.{replicate}
-use Rattle.parts.specs.declared.address.Sixes.{Sixes}
 use borrow.Author.Needs.{needs}
 use Rattle.parts.proofs.address.no_sixes.Statement.{statement}
 use Rattle.parts.proofs.address.no_sixes.Tie as tie

@@ -1,7 +1,7 @@
 -- Addresses that are written are read back.
 use mathlib.Core.Path.{_≡_, refl, sym, ap, _∙_}
-use mathlib.Core.List.{List, [], _∷_, _++_}
-use Prim.Native.Nat.{ℕ, _+_, _*_, _/_, _%_, _^_, _<_}
+use mathlib.Core.List.{List, _++_}
+use Prim.Native.Nat.{ℕ, _+_, _/_, _%_, _^_, _<_}
 use native.Mathlib.Omega.{arith}
 use lib.ListN.{length, getD, length-append}
 use Rattle.numbers.specs.Fields.{bytesAt}
@@ -9,11 +9,11 @@ use Rattle.numbers.specs.Numbers.{numberBytes}
 use Rattle.numbers.specs.Refusals.{outOfRange}
 use Rattle.records.specs.declared.queries.Addr.{Addr}
 use Rattle.records.specs.declared.services.Hint.{Hint}
 use Rattle.parts.specs.Reading.{read, field}
 use Rattle.parts.specs.Addresses.{word, long, four, six, scoped}
 use Rattle.parts.proofs.Steps.{went-on, on-field}
-use Rattle.written.specs.Written.{wordBytes, longBytes, sixBytes, scopedBytes, unscoped, fourAddr, FitsHint, FitsAddr}
-use Rattle.written.proofs.Back.{There, there-left, there-right, limited-back, bytes-back, byte-back}
+use Rattle.parts.specs.Written.{wordBytes, longBytes, sixBytes, scopedBytes, unscoped, fourAddr, FitsHint, FitsAddr}
+use Rattle.parts.proofs.Back.{There, there-left, there-right, limited-back, bytes-back, byte-back}
 
 pub word-length : (x : ℕ) → length (wordBytes x) ≡ 4
 unfolding wordBytes

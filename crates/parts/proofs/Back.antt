@@ -4,27 +4,25 @@
 --     Back                  reading gives a value that is right, and ends after the bytes
 --     items-back, counted-back   items in a row
 use mathlib.Core.Path.{_≡_, refl, sym, ap, subst, _∙_}
-use mathlib.Core.Bool.{true}
 use mathlib.Core.List.{List, [], _∷_, _++_, map, append-assoc}
-use Prim.Native.Nat.{ℕ, zero, suc, _+_, _-_, _^_, _≤_, _<_}
+use Prim.Native.Nat.{ℕ, suc, _+_, _-_, _^_, _≤_, _<_}
 use native.Mathlib.Omega.{arith}
 use lib.ListN.{length, getD, take, drop, length-append, length-drop}
 use lib.Seq.{drop-drop, drop-append-seam, take-append-seam, getD-drop}
 use borrow.Author.Tests.{le-leb}
-use Rattle.numbers.specs.Got.{Got, got}
+use Rattle.numbers.specs.Got.{got}
 use Rattle.numbers.specs.Fields.{atMost, bytesAt, spanBytes}
 use Rattle.numbers.specs.Numbers.{readNumber, numberBytes}
 use Rattle.numbers.specs.Refusals.{tooMany}
-use Rattle.numbers.specs.declared.field.Span.{Span}
 use Rattle.numbers.proofs.RoundTrip.{read-shortest}
 use Rattle.numbers.proofs.Steps.{at-most, whole}
 use Rattle.records.specs.Lists.{each}
 use Rattle.parts.specs.Reading.{Reading, read, next, field}
 use Rattle.parts.specs.Items.{items, past, counted, found, listed}
 use Rattle.parts.specs.declared.address.Items.{Items}
 use Rattle.parts.proofs.Steps.{went-on, on-field}
 use Rattle.parts.proofs.Items.{items-more}
-use Rattle.written.specs.Written.{rowBytes, All}
+use Rattle.parts.specs.Written.{rowBytes, All}
 
 pub append-none : {A : Type 0} (l : List A) → l ≡ l ++ []
 append-none [] = refl
