@@ -257,7 +257,8 @@ fn put_target(
         Target::V6(h, l, s) => {
             let head = [3, id, again, rank, 1];
             let address = sixteen_bytes(h, l).bytes;
-            let tail = [s as u64, port, sealed];
+            let scope = s as u64;
+            let tail = [scope, port, sealed];
             put_parts(out, at, &head, &address, &tail, ech)
         }
         Target::Named(_) => {

@@ -55,8 +55,8 @@ enum-known-t-2 c = search needs
 sixteen-bytes-requires : tie.Need-sixteen-bytes-requires
 sixteen-bytes-requires c κs = search needs
 
-cast-t42 : tie.Need-cast-t42
-cast-t42 c = search needs
+cast-scope : tie.Need-cast-scope
+cast-scope c = search needs
 
 slice-aggregate-put-parts-3 : tie.Need-slice-aggregate-put-parts-3
 slice-aggregate-put-parts-3 c = search needs
@@ -134,7 +134,7 @@ put-target-spec =
     put-parts-requires
     enum-known-t-2
     sixteen-bytes-requires
-    cast-t42
+    cast-scope
     slice-aggregate-put-parts-3
     slice-aggregate-put-parts-4
     slice-aggregate-put-parts-5
