@@ -15,3 +15,4 @@ pub mod Listed
 pub mod Outputs
 pub mod Prefix
 pub mod Making
+pub mod Zeros
