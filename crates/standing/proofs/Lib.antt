@@ -16,3 +16,4 @@ pub mod Outputs
 pub mod Prefix
 pub mod Making
 pub mod Zeros
+pub mod Accepted
