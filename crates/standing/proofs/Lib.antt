@@ -17,3 +17,5 @@ pub mod Prefix
 pub mod Making
 pub mod Zeros
 pub mod Accepted
+pub mod Events
+pub mod Attempted

@@ -78,7 +78,7 @@ due-now stale Done e = absurd (no e)
 
 module _ (m : Machine) (h : Standing m) where
   -- what a wish rests on
-  abbrev Says : Wish → Type 0
+  abbrev pub Says : Wish → Type 0
   Says (wish.Cancel p) = (p < m .attempts .count) × (isOpen (attemptAt (m .attempts) p .state) ≡ true) × (some? hasWonAttempt (tried (m .attempts)) ≡ true)
   Says wish.Succeeded = Unit {0}
   Says (wish.Retry e) = endpointIn (phase (m .queries)) (retriesOf (m .retries)) e ≡ true
@@ -129,7 +129,7 @@ module _ (m : Machine) (h : Standing m) where
   unfolding lastWish
   last-says tries asks count = if-says (asks .pending || (asks .flying || ltb 0 (tries .active))) wish.Waiting (wish.Failed (reasonOf count)) (λ e. tt) tt
 
-  wish-says : (now : ℕ) → Says (wishOf m now)
+  pub wish-says : (now : ℕ) → Says (wishOf m now)
   unfolding wishOf wishBy triesOf asksOf
   wish-says now =
       let alike = sameEndpoint (m .names) (m .echs) in

@@ -1,9 +1,10 @@
 -- What the theorems about whole machines say: rooms, what is shown of an attempt, and what a step leaves.
-use Prim.Native.Nat.{ℕ, _+_, _<_}
+use Prim.Native.Nat.{ℕ, _+_, _<_, _≤_}
 use mathlib.Core.Path.{_≡_}
 use mathlib.Core.Bool.{Bool, true, false}
 use mathlib.Core.List.{List, [], _∷_, _++_}
 use lib.ListN.{length, getD, take}
+use Rattle.records.specs.Endpoints.{Shown, shown}
 use Rattle.records.specs.Lists.{padded}
 use Rattle.records.specs.Names.{nameAt, echAt, blankName, blankEch}
 use Rattle.records.specs.Queries.{noQuery, noAddr, blankAddresses}
@@ -20,11 +21,14 @@ use Rattle.state.specs.declared.attempts.State.the-variants as state
 use Rattle.state.specs.declared.changes.Round.{Round}
 use Rattle.input.specs.Input.{recordAt, attemptAt, withAnswer, isFailed}
 use Rattle.input.specs.Verdicts.{Waits, refreshAfter, endOf}
+use Rattle.input.specs.declared.Input.{Input}
 use Rattle.input.specs.declared.Outcome.{Outcome}
 use Rattle.input.specs.declared.Outcome.the-variants as outcome
 use Rattle.machine.specs.After.{placedServices}
+use Rattle.machine.specs.Steps.{outputStep, inputStep}
 use Rattle.machine.specs.declared.calls.Beside.{Beside}
 use Rattle.standing.specs.Standing.{held}
+use Rattle.standing.specs.Sound.{sound}
 
 -- Rooms
 
@@ -94,3 +98,33 @@ pub record EndsOne (m : Machine) (id : ℕ) (o : Outcome) (b : Beside) (after : 
   pub within : place < m .attempts .count
   pub own : attemptAt (m .attempts) place .id ≡ id
   pub ends : EndsAs m place o b after (attemptAt (m .attempts) place .state)
+
+-- Events
+
+-- a call, or an input with what comes beside it, at a moment
+pub data Event : Type 0 where
+  call : ℕ → Event
+  feed : ℕ → Input → Beside → Event
+
+abbrev pub inForm : Event → Bool
+inForm (call now) = true
+inForm (feed now i b) = sound i b
+
+abbrev pub after : Machine → Event → Machine
+after m (call now) = outputStep m now .machine
+after m (feed now i b) = inputStep m now i b .machine
+
+unfoldable pub afterAll : Machine → List Event → Machine
+afterAll m [] = m
+afterAll m (e ∷ es) = afterAll (after m e) es
+
+-- What was attempted
+
+-- attempt p with its bytes: target, port and rank, those of its host and of its ECH
+abbrev pub shownAt : Machine → ℕ → Shown
+shownAt m p = shown (m .names) (m .echs) (attemptAt (m .attempts) p .endpoint)
+
+-- each attempt is there still, and shows what it showed
+pub record Attempted (m later : Machine) : Type 0 where
+  pub count : m .attempts .count ≤ later .attempts .count
+  pub same : (p : ℕ) → p < m .attempts .count → shownAt later p ≡ shownAt m p
