@@ -19,3 +19,4 @@ pub mod Zeros
 pub mod Accepted
 pub mod Events
 pub mod Attempted
+pub mod Succeeded
