@@ -18,5 +18,6 @@ pub mod Making
 pub mod Zeros
 pub mod Accepted
 pub mod Events
+pub mod Onward
 pub mod Attempted
 pub mod Succeeded

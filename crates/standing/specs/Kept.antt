@@ -14,7 +14,7 @@ use Rattle.records.specs.declared.queries.Kind.{Kind}
 use Rattle.records.specs.declared.queries.Kind.the-variants.{Https, Aaaa, A}
 use Rattle.records.specs.declared.queries.Answer.{Answer}
 use Rattle.state.specs.Changes.{firstName, firstEch}
-use Rattle.state.specs.State.{noAttempt, retriesOf, withState}
+use Rattle.state.specs.State.{noAttempt, retriesOf, isOpen, withState}
 use Rattle.state.specs.declared.Machine.{Machine}
 use Rattle.state.specs.declared.attempts.State.{State}
 use Rattle.state.specs.declared.attempts.State.the-variants as state
@@ -124,7 +124,9 @@ afterAll m (e ∷ es) = afterAll (after m e) es
 abbrev pub shownAt : Machine → ℕ → Shown
 shownAt m p = shown (m .names) (m .echs) (attemptAt (m .attempts) p .endpoint)
 
--- each attempt is there still, and shows what it showed
+-- each attempt is there still, with its id, and shows what it showed; one that has ended goes on no more
 pub record Attempted (m later : Machine) : Type 0 where
   pub count : m .attempts .count ≤ later .attempts .count
   pub same : (p : ℕ) → p < m .attempts .count → shownAt later p ≡ shownAt m p
+  pub ids : (p : ℕ) → p < m .attempts .count → attemptAt (later .attempts) p .id ≡ attemptAt (m .attempts) p .id
+  pub ended : (p : ℕ) → p < m .attempts .count → isOpen (attemptAt (m .attempts) p .state) ≡ false → isOpen (attemptAt (later .attempts) p .state) ≡ false
