@@ -15,3 +15,9 @@ pub mod Listed
 pub mod Outputs
 pub mod Prefix
 pub mod Making
+pub mod Zeros
+pub mod Accepted
+pub mod Events
+pub mod Onward
+pub mod Attempted
+pub mod Succeeded

@@ -2,7 +2,7 @@
 use Prim.Native.Nat.{ℕ, zero, suc, _+_, _-_, _*_, _<_, _≤_}
 use mathlib.Core.Path.{_≡_, refl, sym, ap, _∙_}
 use mathlib.Core.Logic.{_⊎_, ⊎-elim}
-use mathlib.Core.Bool.{Bool, true, false, cond}
+use mathlib.Core.Bool.{Bool, true, false, cond, not}
 use mathlib.Core.List.{List, [], _∷_, map, List·Memᴰ, List·Memᴰ·not-nil, List·Memᴰ·cases-cons}
 use mathlib.Core.List.List·Memᴰ.{List·Memᴰ·head, List·Memᴰ·tail}
 use mathlib.Core.Option.{Option, none, some}
@@ -45,7 +45,7 @@ use Rattle.listing.specs.declared.runs.Run.{Run}
 use Rattle.listing.proofs.Endpoints.{endpoint-from}
 use Rattle.state.specs.State.{tried, retriesOf, noAttempt}
 use Rattle.state.specs.declared.Machine.{Machine}
-use Rattle.starting.specs.Next.{Alike, nextOf, retriedAt, retryEndpoints, nextRetry, nextEndpoint}
+use Rattle.starting.specs.Next.{Alike, attempted, nextOf, retriedAt, retryEndpoints, nextRetry, nextEndpoint}
 use Rattle.starting.specs.declared.next.Next.{Next}
 use Rattle.starting.specs.declared.next.Next.the-variants as next
 use Rattle.standing.specs.Lists.{_and_, every, has}
@@ -288,9 +288,10 @@ module _ (m : Machine) (h : Standing m) where
       (every-imp _ _ service-tier (usable (m .rules .ech) (m .services)) (usable-every (m .rules .ech) (m .services))))
       (last-tier (anyEch (m .rules .ech) (m .services)))
 
-  abbrev pub Known : Next → Type 0
-  Known next.Nothing = Unit {0}
-  Known (next.New e) = endpointIn answers rs e ≡ true
+  -- its places are known, and it is one that is looked for
+  abbrev pub Known : (Endpoint → Bool) → Next → Type 0
+  Known test next.Nothing = Unit {0}
+  Known test (next.New e) = (endpointIn answers rs e ≡ true) × (test e ≡ true)
 
   listed-in : (e : Endpoint) → List·Memᴰ e (endpointsToAttempt (m .rules) (m .alts) (m .queries) (m .answers) (m .services) same) → endpointIn answers rs e ≡ true
   listed-in e k =
@@ -298,14 +299,14 @@ module _ (m : Machine) (h : Standing m) where
       let i = in-every (itemIn answers rs) (w .0) (w .3) (in-every (every (itemIn answers rs)) _ (w .2) tiers-in) in
       rw (← (w .4)) (endpoint-in answers rs (m .rules) (m .alts) (m .answers) (m .services) (w .1) i)
 
-  first-known : (test : Endpoint → Bool) (l : List Endpoint) → ((e : Endpoint) → List·Memᴰ e l → endpointIn answers rs e ≡ true) → Known (nextOf (firstOf test l))
+  first-known : (test : Endpoint → Bool) (l : List Endpoint) → ((e : Endpoint) → List·Memᴰ e l → endpointIn answers rs e ≡ true) → Known test (nextOf (firstOf test l))
   first-known test l f = by (firstOf test l) refl
     where
-      by : (o : Option Endpoint) → firstOf test l ≡ o → Known (nextOf o)
+      by : (o : Option Endpoint) → firstOf test l ≡ o → Known test (nextOf o)
       by none e = tt
-      by (some x) e = f x (first-member test l x e .0)
+      by (some x) e = let w = first-member test l x e in (f x (w .0), w .1)
 
-  pub next-known : (alike : Alike) → Known (nextEndpoint alike (m .rules) (m .alts) (m .queries) (m .answers) (m .services) (m .attempts) same)
+  pub next-known : (alike : Alike) → Known (λ e. not (attempted alike (m .attempts) e)) (nextEndpoint alike (m .rules) (m .alts) (m .queries) (m .answers) (m .services) (m .attempts) same)
   unfolding nextEndpoint
   next-known alike = first-known _ _ listed-in
 
@@ -343,6 +344,6 @@ module _ (m : Machine) (h : Standing m) where
       go true g = both (retry-in p (f p (List·Memᴰ·head refl))) g
       go false g = g
 
-  pub retry-known : (alike : Alike) → Known m h (nextRetry alike (m .attempts) (m .retries))
+  pub retry-known : (alike : Alike) → Known m h (λ e. not (attempted alike (m .attempts) e)) (nextRetry alike (m .attempts) (m .retries))
   unfolding nextRetry
   retry-known alike = first-known m h _ (retryEndpoints (m .attempts) came) (λ e k. in-every _ (retryEndpoints (m .attempts) came) k (retries-in came (λ p t. t)))

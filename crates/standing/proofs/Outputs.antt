@@ -1,7 +1,7 @@
 -- Whatever a call asks for may be asked for, and so every call keeps the standing rules.
 use Prim.Native.Nat.{ℕ, suc, _+_, _<_, _≤_}
 use mathlib.Core.Path.{_≡_, refl}
-use mathlib.Core.Bool.{Bool, true, false, cond, _||_}
+use mathlib.Core.Bool.{Bool, true, false, not, cond, _||_}
 use mathlib.Core.List.{List, [], _∷_}
 use native.Mathlib.Omega.{arith}
 use lib.Dec.{ltb, leb}
@@ -21,7 +21,7 @@ use Rattle.state.specs.State.{noAttempt, asked, tried, retriesOf, isOpen}
 use Rattle.state.specs.declared.Machine.{Machine}
 use Rattle.state.specs.declared.attempts.State.the-variants.{Cancelled}
 use Rattle.input.specs.Input.{recordAt, attemptAt}
-use Rattle.starting.specs.Next.{nextRetry, nextEndpoint}
+use Rattle.starting.specs.Next.{attempted, nextRetry, nextEndpoint}
 use Rattle.starting.specs.Surveys.{firstPlace, triesOf, asksOf, hintsOf, isOpenAttempt, hasWonAttempt, isDue, isDueQuery}
 use Rattle.starting.specs.Starting.{attemptLeft, resolutionLeft}
 use Rattle.starting.specs.Wanted.{nextQuery}
@@ -77,12 +77,16 @@ due-now stale (InFlight i) e = absurd (no e)
 due-now stale Done e = absurd (no e)
 
 module _ (m : Machine) (h : Standing m) where
+  -- an endpoint that wasn't attempted
+  abbrev pub fresh : Endpoint → Bool
+  fresh e = not (attempted (sameEndpoint (m .names) (m .echs)) (m .attempts) e)
+
   -- what a wish rests on
-  abbrev Says : Wish → Type 0
+  abbrev pub Says : Wish → Type 0
   Says (wish.Cancel p) = (p < m .attempts .count) × (isOpen (attemptAt (m .attempts) p .state) ≡ true) × (some? hasWonAttempt (tried (m .attempts)) ≡ true)
   Says wish.Succeeded = Unit {0}
-  Says (wish.Retry e) = endpointIn (phase (m .queries)) (retriesOf (m .retries)) e ≡ true
-  Says (wish.Attempt e) = endpointIn (phase (m .queries)) (retriesOf (m .retries)) e ≡ true
+  Says (wish.Retry e) = (endpointIn (phase (m .queries)) (retriesOf (m .retries)) e ≡ true) × (fresh e ≡ true)
+  Says (wish.Attempt e) = (endpointIn (phase (m .queries)) (retriesOf (m .retries)) e ≡ true) × (fresh e ≡ true)
   Says (wish.Query k p) = Wants m k p
   Says (wish.Refresh p) = (p < m .queries .count) × (recordAt (m .queries) p .stale ≡ true) × (recordAt (m .queries) p .refresh ≡ Idle)
   Says (wish.AttemptTimer n) = Unit {0}
@@ -105,15 +109,15 @@ module _ (m : Machine) (h : Standing m) where
   if-says true v w f g = f refl
   if-says false v w f g = g
 
-  retry-says : (n : Next) (rest : Wish) → Known m h n → Says rest → Says (retryWish n rest)
+  retry-says : (n : Next) (rest : Wish) → Known m h fresh n → Says rest → Says (retryWish n rest)
   retry-says (next.New e) rest f g = f
   retry-says next.Nothing rest f g = g
 
-  attempt-says : (n : Next) (rest : Wish) → Known m h n → Says rest → Says (attemptWish n rest)
+  attempt-says : (n : Next) (rest : Wish) → Known m h fresh n → Says rest → Says (attemptWish n rest)
   attempt-says (next.New e) rest f g = f
   attempt-says next.Nothing rest f g = g
 
-  gated : (b : Bool) (n : Next) → Known m h n → Known m h (cond b n next.Nothing)
+  gated : (b : Bool) (n : Next) → Known m h fresh n → Known m h fresh (cond b n next.Nothing)
   gated true n f = f
   gated false n f = tt
 
@@ -129,7 +133,7 @@ module _ (m : Machine) (h : Standing m) where
   unfolding lastWish
   last-says tries asks count = if-says (asks .pending || (asks .flying || ltb 0 (tries .active))) wish.Waiting (wish.Failed (reasonOf count)) (λ e. tt) tt
 
-  wish-says : (now : ℕ) → Says (wishOf m now)
+  pub wish-says : (now : ℕ) → Says (wishOf m now)
   unfolding wishOf wishBy triesOf asksOf
   wish-says now =
       let alike = sameEndpoint (m .names) (m .echs) in
@@ -165,8 +169,8 @@ module _ (m : Machine) (h : Standing m) where
   unfolding granted grantOf
   given-stands (wish.Cancel p) now f = cancel-stands m h p (f .0) (f .1) Cancelled refl (f .2)
   given-stands wish.Succeeded now f = h
-  given-stands (wish.Retry e) now f = attempt-stands true e now f
-  given-stands (wish.Attempt e) now f = attempt-stands false e now f
+  given-stands (wish.Retry e) now f = attempt-stands true e now (f .0)
+  given-stands (wish.Attempt e) now f = attempt-stands false e now (f .0)
   given-stands (wish.Query k p) now f = query-stands k p f
   given-stands (wish.Refresh p) now f = refresh-stands m h p (f .0) (f .1) (f .2)
   given-stands (wish.AttemptTimer n) now f = h

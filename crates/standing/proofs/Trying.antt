@@ -133,7 +133,7 @@ module _ (m : Machine) (h : Standing m) (i : ℕ) (b : i < m .attempts .count) (
   abbrev new : Attempt
   new = withState old s
 
-  pub marks : List Bool
+  unfoldable pub marks : List Bool
   marks = map refused (tried tries)
 
   pub within : i < length (tried tries)

@@ -1,5 +1,6 @@
 -- The standing rules: one test of the whole machine, made of small ones. Each takes only the parts that it reads, so that a step which leaves
--- these alone keeps it. The made machine passes (proofs/Making.antt), and every step keeps it (proofs/Steps.antt).
+-- these alone keeps it. The made machine passes (proofs/Making.antt), and every step keeps it (proofs/Outputs.antt and
+-- proofs/Inputs.antt).
 use Prim.Native.Nat.{ℕ, _+_, _-_, _*_, _^_}
 use mathlib.Core.Bool.{Bool, true, false, not, cond}
 use mathlib.Core.List.{List, [], _∷_, _++_, map}
