@@ -21,8 +21,8 @@ use Rattle.records.proofs.Rooms.{padded-take}
 use Rattle.input.specs.declared.Input.{Input}
 use Rattle.machine.specs.declared.calls.Beside.{Beside}
 use Rattle.standing.specs.Lists.{_and_, _or_, all, every, everyAt}
-use Rattle.standing.specs.Standing.{zero?, emptyAddr, emptyHint, formed}
-use Rattle.standing.specs.Sound.{addressesSound, hintsSound, nameSound, echSound, sealed, servicesSound, sound}
+use Rattle.standing.specs.Standing.{fits, zero?, emptyAddr, emptyHint, formed, addressesStand}
+use Rattle.standing.specs.Sound.{hintsSound, nameSound, echSound, sealed, servicesSound, sound}
 use Rattle.parts.specs.Reading.{read}
 use Rattle.parts.specs.Items.{listed}
 use Rattle.parts.specs.Addresses.{address, addressesIn, low, halves, foursIn, sixesIn}
@@ -64,16 +64,20 @@ no-addr-formed Https = refl
 no-addr-formed Aaaa = refl
 no-addr-formed A = refl
 
--- addresses in their room
-pub addresses-sound : (k : Kind) (l : List Addr) (n : ℕ) → length l ≡ n → n ≤ 8 → All (λ a. formed k a ≡ true) l → addressesSound k n (record { list = padded 8 noAddr l }) ≡ true
-unfolding addressesSound
-addresses-sound k l n e h ok =
-    all-more _ _ (le-leb n 8 h)
-    (all-more _ _ (eq-eqb (length (padded 8 noAddr l)) 8 (padded-length 8 noAddr l (omega (arith, e))))
-    (all-more _ _ (padded-past 8 noAddr emptyAddr l n e no-addr-empty)
-    (all-more _ _ (padded-every 8 noAddr (formed k) l ok (no-addr-formed k)) all-none)))
+-- a list in its room fits
+padded-fits : {A : Type 0} (m : ℕ) (z : A) (p : A → Bool) (l : List A) (n : ℕ) → length l ≡ n → n ≤ m → p z ≡ true → fits m p n (padded m z l) ≡ true
+unfolding fits
+padded-fits m z p l n e h k =
+    all-more _ _ (eq-eqb (length (padded m z l)) m (padded-length m z l (omega (arith, e, h))))
+    (all-more _ _ (le-leb n m h) (all-more _ _ (padded-past m z p l n e k) all-none))
 
-no-addresses-sound : (k : Kind) → addressesSound k 0 noAddresses ≡ true
+-- addresses in their room
+pub addresses-sound : (k : Kind) (l : List Addr) (n : ℕ) → length l ≡ n → n ≤ 8 → All (λ a. formed k a ≡ true) l → addressesStand n k (record { list = padded 8 noAddr l }) ≡ true
+unfolding addressesStand
+addresses-sound k l n e h ok =
+    both-hold _ _ (padded-fits 8 noAddr emptyAddr l n e h no-addr-empty) (padded-every 8 noAddr (formed k) l ok (no-addr-formed k))
+
+no-addresses-sound : (k : Kind) → addressesStand 0 k noAddresses ≡ true
 unfolding noAddresses padded All
 no-addresses-sound k = addresses-sound k [] 0 refl (omega arith) tt
 
@@ -81,28 +85,19 @@ no-addresses-sound k = addresses-sound k [] 0 refl (omega arith) tt
 name-sound : (n i : ℕ) (bs : List ℕ) → length bs ≤ longestName → nameOk bs ≡ true → i < n → nameSound n i (nameIn bs) ≡ true
 unfolding nameSound nameIn
 name-sound n i bs h ok l =
-    all-more _ _ (le-leb (length bs) 253 h)
-    (all-more _ _ (eq-eqb (length (padded 253 0 bs)) 253 (padded-length 253 0 bs h))
-    (all-more _ _ (padded-past 253 0 zero? bs (length bs) refl refl)
+    all-more _ _ (padded-fits 253 0 zero? bs (length bs) refl h refl)
     (all-more _ _ (or-right (leb n i) _ (ap nameOk (name-back bs) ∙ ok))
-    (all-more _ _ (or-left (not (leb n i)) (zero? (length bs)) (ap not (lt-leb n i l))) all-none))))
+    (all-more _ _ (or-left (not (leb n i)) (zero? (length bs)) (ap not (lt-leb n i l))) all-none))
 
 no-name-sound : (n i : ℕ) → n ≤ i → nameSound n i noName ≡ true
 unfolding nameSound noName padded
 no-name-sound n i l =
-    all-more _ _ refl
-    (all-more _ _ refl
-    (all-more _ _ (padded-past 253 0 zero? [] 0 refl refl)
-    (all-more _ _ (or-left (leb n i) (nameOk (nameBytes noName)) (le-leb n i l))
-    (all-more _ _ (or-right (not (leb n i)) true refl) all-none))))
+    all-more _ _ (padded-fits 253 0 zero? [] 0 refl (omega arith) refl)
+    (all-more _ _ (or-left (leb n i) (nameOk (nameBytes noName)) (le-leb n i l)) (all-more _ _ (or-right (not (leb n i)) true refl) all-none))
 
 ech-sound : (there : Bool) (bs : List ℕ) → length bs ≤ 512 → (there or zero? (length bs)) ≡ true → echSound there (echIn bs) ≡ true
 unfolding echSound echIn
-ech-sound there bs h k =
-    all-more _ _ (le-leb (length bs) 512 h)
-    (all-more _ _ (eq-eqb (length (padded 512 0 bs)) 512 (padded-length 512 0 bs h))
-    (all-more _ _ (padded-past 512 0 zero? bs (length bs) refl refl)
-    (all-more _ _ k all-none)))
+ech-sound there bs h k = both-hold _ _ (padded-fits 512 0 zero? bs (length bs) refl h refl) k
 
 no-ech-in : echIn [] ≡ noEch
 unfolding echIn noEch padded
@@ -125,10 +120,8 @@ module _ (s : List ℕ) where
   hints-sound o =
       let f = listed 4 (address Four s) (o .hints .four) in
       let x = listed 4 (address Six s) (o .hints .six) in
-      all-more _ _ (le-leb (length f) 4 (listed-few 4 (address Four s) (o .hints .four)))
-      (all-more _ _ (padded-past 4 0 zero? (map low f) (length f) (length-map f low) refl)
-      (all-more _ _ (le-leb (length x) 4 (listed-few 4 (address Six s) (o .hints .six)))
-      (all-more _ _ (padded-past 4 noHint emptyHint (map halves x) (length x) (length-map x halves) no-hint-empty) all-none)))
+      both-hold _ _ (padded-fits 4 0 zero? (map low f) (length f) (length-map f low) (listed-few 4 (address Four s) (o .hints .four)) refl)
+      (padded-fits 4 noHint emptyHint (map halves x) (length x) (length-map x halves) (listed-few 4 (address Six s) (o .hints .six)) no-hint-empty)
 
   seal-sound : (o : Offer) → echSound (sealed (serviceOf s o)) (targetEch s o) ≡ true
   unfolding serviceOf targetEch
