@@ -21,3 +21,4 @@ pub mod Events
 pub mod Onward
 pub mod Attempted
 pub mod Succeeded
+pub mod Once
