@@ -39,7 +39,7 @@ use Rattle.machine.specs.declared.wish.Wish.{Wish}
 use Rattle.machine.specs.declared.wish.Wish.the-variants as wish
 use Rattle.standing.specs.Lists.{_and_, every, apart}
 use Rattle.standing.specs.Standing.{Key, keyOf, keyAt, keys, sameKey, oneEach, recordIds, attemptId, idsOf, idle, named, namedKey, phase, standing}
-use Rattle.standing.specs.Kept.{Event, inForm, after, afterAll, Ask, query, refresh, attempt, cancel, askOf, IsFor, Asked, Once}
+use Rattle.standing.specs.Kept.{Event, call, inForm, after, afterAll, Ask, query, refresh, attempt, cancel, askOf, asksAt, IsFor, Asked, Once}
 use Rattle.standing.proofs.Lists.{no, both, left, right, every-at, none-passes, eqb-sym, used-length}
 use Rattle.standing.proofs.Parts.{Standing, parts}
 use Rattle.standing.proofs.Same.{key-sym}
@@ -59,7 +59,8 @@ module _ {B : Type 0} (r : B → B → Bool) where
   apart-rest (x ∷ a) b h = apart-rest a b (right _ _ h)
 
   -- two that are alike are one
-  apart-same : ((x y : B) → r x y ≡ r y x) → (l : List B) (i j : ℕ) (d : B) → i < length l → j < length l → apart r l ≡ true → r (getD l i d) (getD l j d) ≡ true → i ≡ j
+  apart-same : ((x y : B) → r x y ≡ r y x) → (l : List B) (i j : ℕ) (d : B) → i < length l → j < length l → apart r l ≡ true
+      → r (getD l i d) (getD l j d) ≡ true → i ≡ j
   unfolding apart
   apart-same s [] i j d b c h e = absurd (omega arith)
   apart-same s (x ∷ l) zero zero d b c h e = refl
@@ -116,7 +117,8 @@ module _ (m : Machine) (h : Standing m) where
 
   -- A query: no record is for the same
 
-  query-once : (k : Kind) (p : ℕ) → q .count < 16 → Wants m k p → Once m (called m (calls.Asks (q .count) (newQuery (m .ids .next) k p))) (query k (nameBytesAt (m .names) p))
+  query-once : (k : Kind) (p : ℕ) → q .count < 16 → Wants m k p
+      → Once m (called m (calls.Asks (q .count) (newQuery (m .ids .next) k p))) (query k (nameBytesAt (m .names) p))
   query-once k p b w = record { new = λ f. before (f .0) (f .1); held = held }
     where
       x : Query
@@ -135,7 +137,8 @@ module _ (m : Machine) (h : Standing m) where
 
   -- A refresh: it wasn't begun
 
-  refresh-once : (p : ℕ) → p < q .count → recordAt q p .refresh ≡ Idle → Once m (called m (calls.Asks p (refreshed (recordAt q p) (m .ids .next)))) (refresh (recordAt q p .kind) (nameBytesAt (m .names) (recordAt q p .name)))
+  refresh-once : (p : ℕ) → p < q .count → recordAt q p .refresh ≡ Idle
+      → Once m (called m (calls.Asks p (refreshed (recordAt q p) (m .ids .next)))) (refresh (recordAt q p .kind) (nameBytesAt (m .names) (recordAt q p .name)))
   refresh-once p b e = record { new = λ f. before (f .0) (f .1) (f .2); held = held }
     where
       x : Query
@@ -156,7 +159,8 @@ module _ (m : Machine) (h : Standing m) where
 
   -- An attempt: no attempt shows the same
 
-  attempt-once : (retry : Bool) (e : Endpoint) (now : ℕ) → a .count < 32 → fresh m h e ≡ true → Once m (called m (calls.Tries (a .count) (newAttempt (m .ids .next) e now retry))) (attempt (shown (m .names) (m .echs) e))
+  attempt-once : (retry : Bool) (e : Endpoint) (now : ℕ) → a .count < 32 → fresh m h e ≡ true
+      → Once m (called m (calls.Tries (a .count) (newAttempt (m .ids .next) e now retry))) (attempt (shown (m .names) (m .echs) e))
   unfolding attempted
   attempt-once retry e now b f = record { new = λ g. before (g .0) (g .1) (g .2); held = held }
     where
@@ -181,7 +185,8 @@ module _ (m : Machine) (h : Standing m) where
 
   -- A cancel: the attempt was in progress
 
-  cancel-once : (p : ℕ) → p < a .count → isOpen (attemptAt a p .state) ≡ true → Once m (called m (calls.Cancels p (withState (attemptAt a p) Cancelled))) (cancel (attemptAt a p .id))
+  cancel-once : (p : ℕ) → p < a .count → isOpen (attemptAt a p .state) ≡ true
+      → Once m (called m (calls.Cancels p (withState (attemptAt a p) Cancelled))) (cancel (attemptAt a p .id))
   cancel-once p b e = record { new = λ g. before (g .0) (g .1) (g .2) (g .3); held = held }
     where
       x : Attempt
@@ -198,25 +203,29 @@ module _ (m : Machine) (h : Standing m) where
 
   -- What is given for a wish
 
-  turn-once : (b : Bool) (t u : Turn) → askOf m (t .output) ≡ none → (b ≡ false → (x : Ask) → askOf m (u .output) ≡ some x → Once m (called m (u .change)) x)
+  turn-once : (b : Bool) (t u : Turn) → askOf m (t .output) ≡ none
+      → (b ≡ false → (x : Ask) → askOf m (u .output) ≡ some x → Once m (called m (u .change)) x)
       → (x : Ask) → askOf m (cond b t u .output) ≡ some x → Once m (called m (cond b t u .change)) x
   turn-once true t u e f x g = absurd (no-ask (sym e ∙ g))
   turn-once false t u e f x g = f refl x g
 
-  attempt-given : (retry : Bool) (e : Endpoint) (now : ℕ) → fresh m h e ≡ true → (x : Ask) → askOf m (attemptGrant (a .count) (m .ids .next) retry e now .output) ≡ some x
+  attempt-given : (retry : Bool) (e : Endpoint) (now : ℕ) → fresh m h e ≡ true → (x : Ask)
+      → askOf m (attemptGrant (a .count) (m .ids .next) retry e now .output) ≡ some x
       → Once m (called m (attemptGrant (a .count) (m .ids .next) retry e now .change)) x
   unfolding attemptGrant
   attempt-given retry e now f =
       turn-once (leb 32 (a .count)) (only (output.Full table.Attempts)) (record { output = output.Attempt (m .ids .next) retry e; change = calls.Tries (a .count) (newAttempt (m .ids .next) e now retry) }) refl
       (λ r y i. rw (← the-ask _ y i) (attempt-once retry e now (leb-false 32 (a .count) r) f))
 
-  query-given : (k : Kind) (p : ℕ) → Wants m k p → (x : Ask) → askOf m (queryGrant (q .count) (m .ids .next) k p .output) ≡ some x → Once m (called m (queryGrant (q .count) (m .ids .next) k p .change)) x
+  query-given : (k : Kind) (p : ℕ) → Wants m k p → (x : Ask) → askOf m (queryGrant (q .count) (m .ids .next) k p .output) ≡ some x
+      → Once m (called m (queryGrant (q .count) (m .ids .next) k p .change)) x
   unfolding queryGrant
   query-given k p f =
       turn-once (leb 16 (q .count)) (only (output.Full table.Queries)) (record { output = output.Query (m .ids .next) k true p; change = calls.Asks (q .count) (newQuery (m .ids .next) k p) }) refl
       (λ r y i. rw (← the-ask _ y i) (query-once k p (leb-false 16 (q .count) r) f))
 
-  given-once : (w : Wish) (now : ℕ) → Says m h w → (x : Ask) → askOf m (granted q a (m .ids) w now .output) ≡ some x → Once m (called m (granted q a (m .ids) w now .change)) x
+  given-once : (w : Wish) (now : ℕ) → Says m h w → (x : Ask) → askOf m (granted q a (m .ids) w now .output) ≡ some x
+      → Once m (called m (granted q a (m .ids) w now .change)) x
   unfolding granted grantOf
   given-once (wish.Cancel p) now f = λ x e. rw (← the-ask _ x e) (cancel-once p (f .0) (f .1))
   given-once wish.Succeeded now f = λ x e. absurd (no-ask e)
@@ -256,7 +265,7 @@ asked-on m [] h s x f = f
 asked-on m (e ∷ es) h s x f = asked-on (after m e) es (event-stands m e h (left _ _ s)) (right _ _ s) x (still-asked m h (after m e) (event-onward m h e (left _ _ s)) x f)
 
 -- What a call asks for was not asked for before, and is in the tables afterwards.
-pub ask-once : (m : Machine) (now : ℕ) (x : Ask) → standing m ≡ true → askOf m (outputStep m now .output) ≡ some x → Once m (outputStep m now .machine) x
+pub ask-once : (m : Machine) (now : ℕ) (x : Ask) → standing m ≡ true → asksAt m now ≡ some x → Once m (after m (call now)) x
 ask-once m now x h e = call-once m (parts m h) now x e
 
 -- It stays there, whatever happens.
@@ -265,8 +274,8 @@ asked-stays m es x h s f = asked-on m es (parts m h) s x f
 
 -- So no later call asks for it again.
 pub asked-once : (m : Machine) (now : ℕ) (es : List Event) (later : ℕ) (x : Ask) → standing m ≡ true → every inForm es ≡ true
-    → askOf m (outputStep m now .output) ≡ some x → askOf (afterAll (outputStep m now .machine) es) (outputStep (afterAll (outputStep m now .machine) es) later .output) ≡ some x → ⊥
+    → asksAt m now ≡ some x → asksAt (afterAll (after m (call now)) es) later ≡ some x → ⊥
 asked-once m now es later x h s e f =
     let g = output-stands m now (parts m h) in
-    call-once (afterAll (outputStep m now .machine) es) (events-stand (outputStep m now .machine) es g s) later x f .new
-    (asked-on (outputStep m now .machine) es g s x (call-once m (parts m h) now x e .held))
+    call-once (afterAll (after m (call now)) es) (events-stand (after m (call now)) es g s) later x f .new
+    (asked-on (after m (call now)) es g s x (call-once m (parts m h) now x e .held))

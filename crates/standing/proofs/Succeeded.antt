@@ -168,7 +168,8 @@ nowhere : (t : Bool) (i : ℕ) (p : Place) → cond t (place.At i) p ≡ place.N
 nowhere true i p e = absurd (let z : _≡_ {A = ℕ} 0 1 = cc in omega arith)
 nowhere false i p e = (refl, e)
 
-none-passes : {B : Type 0} (test : B → Bool) (i : ℕ) (l : List B) (p : ℕ) (d : B) → firstPlace test i l ≡ place.Nowhere → p < length l → test (getD l p d) ≡ true → ⊥
+none-passes : {B : Type 0} (test : B → Bool) (i : ℕ) (l : List B) (p : ℕ) (d : B) → firstPlace test i l ≡ place.Nowhere → p < length l
+    → test (getD l p d) ≡ true → ⊥
 unfolding firstPlace
 none-passes test i [] p d e b f = omega arith
 none-passes test i (x ∷ l) zero d e b f = no (sym (nowhere (test x) i (firstPlace test (i + 1) l) e .0) ∙ f)
@@ -189,13 +190,15 @@ module _ (m : Machine) (o : Over (m .attempts)) (b : Beside) where
   result-same : (id : ℕ) (x : Outcome) (c : InputChange) → Ended (m .rules .ech) a (m .retries .count) id x c → attemptsFed a c ≡ a
   result-same id x c f = by (attemptAt a (f .place) .state) refl (f .ends)
     where
-      by : (t : State) → attemptAt a (f .place) .state ≡ t → Ends (m .rules .ech) (m .retries .count) (f .place) (attemptAt a (f .place)) x c t → attemptsFed a c ≡ a
+      by : (t : State) → attemptAt a (f .place) .state ≡ t → Ends (m .rules .ech) (m .retries .count) (f .place) (attemptAt a (f .place)) x c t
+          → attemptsFed a c ≡ a
       by state.InProgress e g = absurd (not-open (f .place) (f .within) e)
       by state.Succeeded e g = absurd g
       by state.Failed e g = absurd g
       by state.Cancelled e g = rw g
 
-  accepted-same : (now : ℕ) (i : Input) (c : InputChange) → verdictOf (m .rules .ech) (m .queries) a (m .retries .count) i now ≡ Accepted c → attemptsFed a c ≡ a
+  accepted-same : (now : ℕ) (i : Input) (c : InputChange) → verdictOf (m .rules .ech) (m .queries) a (m .retries .count) i now ≡ Accepted c
+      → attemptsFed a c ≡ a
   accepted-same now (input.Fails k id stale) c e = answer-same k id stale (Failed now) c (failed-after (m .rules .ech) (m .queries) a (m .retries .count) now k id stale c e)
   accepted-same now (input.Holds k id stale n) c e = answer-same k id stale (Held now n) c (held-after (m .rules .ech) (m .queries) a (m .retries .count) now k id stale n c e)
   accepted-same now (input.Success id) c e = result-same id outcome.Success c (ended-after (m .rules .ech) (m .queries) a (m .retries .count) now outcome.Success id c e)
@@ -218,5 +221,6 @@ over-after m [] o = o
 over-after m (e ∷ es) o = over-after (after m e) es (rw (event-same m e o) o)
 
 -- Once Succeeded is given, every later call gives it, at any moment and after any events. No rule is needed for this, standing or of form.
-pub succeeded-forever : (m : Machine) (now : ℕ) (es : List Event) (later : ℕ) → outputStep m now .output ≡ output.Succeeded → outputStep (afterAll m es) later .output ≡ output.Succeeded
+pub succeeded-forever : (m : Machine) (now : ℕ) (es : List Event) (later : ℕ) → outputStep m now .output ≡ output.Succeeded
+    → outputStep (afterAll m es) later .output ≡ output.Succeeded
 succeeded-forever m now es later e = over-given (afterAll m es) later (over-after m es (given-over m now e))

@@ -158,6 +158,10 @@ askOf m output.Succeeded = none
 askOf m (output.Failed r) = none
 askOf m (output.Full t) = none
 
+-- what a call at a moment asks for
+abbrev pub asksAt : Machine → ℕ → Option Ask
+asksAt m now = askOf m (outputStep m now .output)
+
 -- record p is for that type and name
 pub record IsFor (m : Machine) (k : Kind) (x : List ℕ) (p : ℕ) : Type 0 where
   pub within : p < m .queries .count
