@@ -8,6 +8,7 @@ pub mod Trying
 pub mod Answering
 pub mod Https
 pub mod Offering
+pub mod Taken
 pub mod Inputs
 pub mod Order
 pub mod Wanting

@@ -34,18 +34,14 @@ use Rattle.state.specs.declared.changes.Round.{Round}
 use Rattle.state.specs.declared.changes.Round.the-variants.{First, Second}
 use Rattle.state.specs.declared.changes.CallChange.{CallChange}
 use Rattle.state.specs.declared.changes.CallChange.the-variants as calls
-use Rattle.input.specs.Input.{recordAt, attemptAt, withAnswer, isFailed, storedAt, verdictOf}
+use Rattle.input.specs.Input.{recordAt, attemptAt, withAnswer, isFailed, storedAt}
 use Rattle.input.specs.Verdicts.{Waits, MayBe, Answered, Ended, Ends, again, endOf, refreshAfter}
-use Rattle.input.specs.declared.Input.{Input}
 use Rattle.input.specs.declared.Input.the-variants as input
 use Rattle.input.specs.declared.Outcome.{Outcome}
 use Rattle.input.specs.declared.Outcome.the-variants as outcome
-use Rattle.input.specs.declared.Verdict.{Verdict}
-use Rattle.input.specs.declared.Verdict.the-variants.{Accepted, Refused}
-use Rattle.input.proofs.Laws.{held-after, failed-after, ended-after}
 use Rattle.machine.specs.After.{queriesCalled, attemptsCalled, putQuery, putAttempt, putEchs, putEch}
 use Rattle.machine.specs.Output.{wishOf, only, newQuery, refreshed, queryGrant, attemptGrant, grantOf, granted}
-use Rattle.machine.specs.Steps.{called, fed, changeOf, turnOf, outputStep, judged, inputStep}
+use Rattle.machine.specs.Steps.{called, fed, turnOf, outputStep, inputStep}
 use Rattle.machine.specs.declared.calls.Beside.{Beside}
 use Rattle.machine.specs.declared.grant.Output.the-variants as output
 use Rattle.machine.specs.declared.grant.Table.the-variants as table
@@ -55,7 +51,7 @@ use Rattle.machine.specs.declared.after.TargetEchs.{TargetEchs}
 use Rattle.standing.specs.Lists.{_and_, _or_, every, has}
 use Rattle.standing.specs.Standing.{named, kept, phase, refused, heldOf, idle}
 use Rattle.standing.specs.Kept.{Event, call, feed, inForm, after}
-use Rattle.standing.specs.Sound.{servicesSound, answerSound, sound}
+use Rattle.standing.specs.Sound.{servicesSound, answerSound}
 use Rattle.standing.proofs.Lists.{no, left, right, rule, or-second, sets-before, sets-past}
 use Rattle.standing.proofs.Parts.{Standing}
 use Rattle.standing.proofs.Https.{before, name-stays, phase-was}
@@ -63,6 +59,7 @@ use Rattle.standing.proofs.Tables.{query-more, query-put, attempt-more,
 use Rattle.standing.proofs.Answering.{resting-of}
 use Rattle.standing.proofs.Outputs.{Says, wish-says}
 use Rattle.standing.proofs.Inputs.{only-first}
+use Rattle.standing.proofs.Taken.{every-input}
 use Rattle.standing.proofs.Trying.{marks, unmarked}
 
 -- ECH bytes that are in use
@@ -328,20 +325,7 @@ module _ (m : Machine) (h : Standing m) where
         by state.Failed e g = absurd g
         by state.Cancelled e g = rw g on
 
-    accepted-on : (now : ℕ) (i : Input) (c : InputChange) → sound i b ≡ true → verdictOf (m .rules .ech) q a (m .retries .count) i now ≡ Accepted c
-        → Onward m (fed m c b)
-    accepted-on now (input.Fails k id stale) c s e = answer-on k id stale (Failed now) refl s c (failed-after (m .rules .ech) q a (m .retries .count) now k id stale c e)
-    accepted-on now (input.Holds k id stale n) c s e = answer-on k id stale (Held now n) refl s c (held-after (m .rules .ech) q a (m .retries .count) now k id stale n c e)
-    accepted-on now (input.Success id) c s e = result-on id outcome.Success c (ended-after (m .rules .ech) q a (m .retries .count) now outcome.Success id c e)
-    accepted-on now (input.Failure id) c s e = result-on id outcome.Failure c (ended-after (m .rules .ech) q a (m .retries .count) now outcome.Failure id c e)
-    accepted-on now (input.EchRetry id) c s e = result-on id outcome.EchRetry c (ended-after (m .rules .ech) q a (m .retries .count) now outcome.EchRetry id c e)
-
-    judged-on : (now : ℕ) (i : Input) → sound i b ≡ true → (v : Verdict) → judged m now i ≡ v → Onward m (fed m (changeOf v) b)
-    unfolding judged
-    judged-on now i s (Accepted c) e = accepted-on now i c s e
-    judged-on now i s (Refused r) e = on
-
   pub event-onward : (e : Event) → inForm e ≡ true → Onward m (after m e)
   unfolding inputStep
   event-onward (call now) s = call-onward now
-  event-onward (feed now i b) s = judged-on b now i s (judged m now i) refl
+  event-onward (feed now i b) s = every-input m now b (λ t. t ≡ true) (λ c. Onward m (fed m c b)) on (answer-on b) (λ id o f c. result-on b id o c) i s
