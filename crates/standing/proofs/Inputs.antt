@@ -24,7 +24,6 @@ use Rattle.state.specs.declared.changes.Round.{Round}
 use Rattle.input.specs.Input.{recordAt, attemptAt, withAnswer, isFailed, storedAt}
 use Rattle.input.specs.Verdicts.{Waits, MayBe, Answered, Ended, Ends, Fits, again, endOf, refreshAfter}
 use Rattle.input.specs.declared.Input.{Input}
-use Rattle.input.specs.declared.Input.the-variants as input
 use Rattle.input.specs.declared.Outcome.{Outcome}
 use Rattle.input.specs.declared.Outcome.the-variants as outcome
 use Rattle.machine.specs.Steps.{fed, inputStep}

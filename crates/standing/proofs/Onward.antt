@@ -36,7 +36,6 @@ use Rattle.state.specs.declared.changes.CallChange.{CallChange}
 use Rattle.state.specs.declared.changes.CallChange.the-variants as calls
 use Rattle.input.specs.Input.{recordAt, attemptAt, withAnswer, isFailed, storedAt}
 use Rattle.input.specs.Verdicts.{Waits, MayBe, Answered, Ended, Ends, again, endOf, refreshAfter}
-use Rattle.input.specs.declared.Input.the-variants as input
 use Rattle.input.specs.declared.Outcome.{Outcome}
 use Rattle.input.specs.declared.Outcome.the-variants as outcome
 use Rattle.machine.specs.After.{queriesCalled, attemptsCalled, putQuery, putAttempt, putEchs, putEch}

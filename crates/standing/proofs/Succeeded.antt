@@ -24,9 +24,7 @@ use Rattle.state.specs.declared.changes.InputChange.{InputChange}
 use Rattle.state.specs.declared.changes.Round.{Round}
 use Rattle.input.specs.Input.{recordAt, attemptAt, withAnswer, isFailed, storedAt}
 use Rattle.input.specs.Verdicts.{attemptsIn, Answered, Ended, Ends, refreshAfter}
-use Rattle.input.specs.declared.Input.the-variants as input
 use Rattle.input.specs.declared.Outcome.{Outcome}
-use Rattle.input.specs.declared.Outcome.the-variants as outcome
 use Rattle.starting.specs.Surveys.{firstPlace, triesOf, asksOf, hintsOf, isOpenAttempt}
 use Rattle.starting.specs.Next.{nextRetry, nextEndpoint}
 use Rattle.starting.specs.Wanted.{nextQuery}
