@@ -54,12 +54,13 @@ pub record Rooms (m : Machine) : Type 0 where
 
 -- Accepted inputs
 
--- what came with an answer, for the record at p of its type: its addresses, no service where it failed, or services with names and ECH bytes
+-- the services of an HTTPS answer, with their names and ECH bytes at the places of its round
 pub record Offered (round : Round) (b : Beside) (after : Machine) : Type 0 where
   pub services : after .services ≡ placedServices (b .services) round
   pub names : (i : ℕ) → i < 4 → nameAt (after .names) (firstName round + i) ≡ getD (b .names .list) i blankName
   pub echs : (i : ℕ) → i < 4 → echAt (after .echs) (firstEch round + i) ≡ getD (b .echs .list) i blankEch
 
+-- what came with an answer of record p: of an HTTPS answer its services, none where it failed, of another its addresses
 abbrev pub Brought : ℕ → Round → Beside → Machine → Bool → Kind → Type 0
 Brought p round b after true Https = after .services ≡ noServices
 Brought p round b after false Https = Offered round b after
@@ -84,18 +85,20 @@ Again m p b after outcome.Failure = Unit {0}
 Again m p b after outcome.EchRetry =
     attemptAt (m .attempts) p .retry ≡ false → (retriesOf (after .retries) ≡ retriesOf (m .retries) ++ (p ∷ [])) × (echAt (after .echs) (8 + p) ≡ b .retry)
 
--- the attempt with the id ends as the result says, and no other changes; where it was cancelled, nothing changes
+-- the attempt at p ends as the result says, and no other changes
 pub record EndsNow (m : Machine) (p : ℕ) (o : Outcome) (b : Beside) (after : Machine) : Type 0 where
   pub now : attemptAt (after .attempts) p ≡ withState (attemptAt (m .attempts) p) (endOf o)
   pub others : (j : ℕ) → (j ≡ p → ⊥) → attemptAt (after .attempts) j ≡ attemptAt (m .attempts) j
   pub again : Again m p b after o
 
+-- that is so of one in progress; where it was cancelled, nothing changes, and no other takes a result
 abbrev pub EndsAs : Machine → ℕ → Outcome → Beside → Machine → State → Type 0
 EndsAs m p o b after state.InProgress = EndsNow m p o b after
 EndsAs m p o b after state.Succeeded = ⊥
 EndsAs m p o b after state.Failed = ⊥
 EndsAs m p o b after state.Cancelled = after ≡ m
 
+-- the attempt that has the id
 pub record EndsOne (m : Machine) (id : ℕ) (o : Outcome) (b : Beside) (after : Machine) : Type 0 where
   pub place : ℕ
   pub within : place < m .attempts .count
