@@ -47,7 +47,8 @@ use Rattle.standing.proofs.Tables.{query-put, attempt-put, retry-more}
 use Rattle.standing.proofs.Trying.{one-closed}
 
 -- several written from i on: each is read at its place
-sets-at : {A : Type 0} (l : List A) (i : ℕ) (xs : List A) (j : ℕ) (d : A) → j < length xs → i + length xs ≤ length l → getD (sets l i xs) (i + j) d ≡ getD xs j d
+sets-at : {A : Type 0} (l : List A) (i : ℕ) (xs : List A) (j : ℕ) (d : A) → j < length xs → i + length xs ≤ length l
+    → getD (sets l i xs) (i + j) d ≡ getD xs j d
 sets-at l i [] j d b f = absurd (omega arith)
 sets-at l i (x ∷ xs) zero d b f =
     let z : i + 0 ≡ i = omega arith in
@@ -70,7 +71,8 @@ accepts (verdict.Accepted c) e = (c, refl)
 accepts (verdict.Refused r) e = absurd (let z : _≡_ {A = ℕ} 0 1 = cc in omega arith)
 
 -- An answer is stored as the record at its place, whatever comes with it
-stored-queries : (q : Queries) (p : ℕ) (x : Query) (failed : Bool) (round : Round) (k : Kind) → queriesFed q (storedAt p x failed round k) ≡ putQuery q p x
+stored-queries : (q : Queries) (p : ℕ) (x : Query) (failed : Bool) (round : Round) (k : Kind)
+    → queriesFed q (storedAt p x failed round k) ≡ putQuery q p x
 stored-queries q p x true round Https = refl
 stored-queries q p x false round Https = refl
 stored-queries q p x failed round Aaaa = refl
@@ -102,7 +104,8 @@ module _ (m : Machine) (h : Standing m) (b : Beside) where
           echs = λ i c. rw (lt-ltb (firstEch round + i) 40 (omega (arith, ech-room round))) (sets-at (m .echs .list) (firstEch round) (b .echs .list) i blankEch (omega (arith, echs)) (omega (arith, echs, ech-room round, h .tables .echRoom)));
         }
 
-    brings : (k : Kind) (a : Answer) → answered a ≡ true → answerSound k (heldOf a) b ≡ true → Brought p round b (fed m (storedAt p x (isFailed a) round k) b) (isFailed a) k
+    brings : (k : Kind) (a : Answer) → answered a ≡ true → answerSound k (heldOf a) b ≡ true
+        → Brought p round b (fed m (storedAt p x (isFailed a) round k) b) (isFailed a) k
     brings Https Pending e s = absurd (no e)
     brings Https (Failed t) e s = refl
     brings Https (Held t n) e s = offers (right _ _ s)
@@ -119,7 +122,8 @@ module _ (m : Machine) (h : Standing m) (b : Beside) where
     inside : f .place < q .count
     inside = omega (arith, f .within)
 
-    holds-by : (j : Kind) → old .kind ≡ j → answerSound j (heldOf a) b ≡ true → Holds m j id stale a b (fed m (storedAt (f .place) new (isFailed a) (f .round) j) b)
+    holds-by : (j : Kind) → old .kind ≡ j → answerSound j (heldOf a) b ≡ true
+        → Holds m j id stale a b (fed m (storedAt (f .place) new (isFailed a) (f .round) j) b)
     holds-by j e s =
         let stored = stored-queries q (f .place) new (isFailed a) (f .round) j in
         record {
@@ -137,7 +141,8 @@ module _ (m : Machine) (h : Standing m) (b : Beside) where
     holds = rw (f .kept, ← f .kind) (holds-by (old .kind) refl (rw (f .kind) sounds))
 
 -- The machine has the answer that was given, with the moment at which it came.
-pub answer-held : (m : Machine) (now : ℕ) (k : Kind) (id : ℕ) (stale : Bool) (n : ℕ) (b : Beside) → standing m ≡ true → sound (input.Holds k id stale n) b ≡ true
+pub answer-held : (m : Machine) (now : ℕ) (k : Kind) (id : ℕ) (stale : Bool) (n : ℕ) (b : Beside) → standing m ≡ true
+    → sound (input.Holds k id stale n) b ≡ true
     → inputStep m now (input.Holds k id stale n) b .taken ≡ Accepted → Holds m k id stale (Held now n) b (inputStep m now (input.Holds k id stale n) b .machine)
 unfolding inputStep judged
 answer-held m now k id stale n b h s e =
@@ -145,7 +150,8 @@ answer-held m now k id stale n b h s e =
     rw (v .1) (holds m (parts m h) b k id stale (Held now n) refl s (v .0) (held-after (m .rules .ech) (m .queries) (m .attempts) (m .retries .count) now k id stale n (v .0) (v .1)))
 
 -- So it is with an answer that failed.
-pub failure-held : (m : Machine) (now : ℕ) (k : Kind) (id : ℕ) (stale : Bool) (b : Beside) → standing m ≡ true → sound (input.Fails k id stale) b ≡ true
+pub failure-held : (m : Machine) (now : ℕ) (k : Kind) (id : ℕ) (stale : Bool) (b : Beside) → standing m ≡ true
+    → sound (input.Fails k id stale) b ≡ true
     → inputStep m now (input.Fails k id stale) b .taken ≡ Accepted → Holds m k id stale (Failed now) b (inputStep m now (input.Fails k id stale) b .machine)
 unfolding inputStep judged
 failure-held m now k id stale b h s e =
@@ -190,17 +196,20 @@ module _ (m : Machine) (h : Standing m) (b : Beside) (p : ℕ) (inside : p < m .
       kept outcome.Failure e = tt
       kept outcome.EchRetry e = λ n. absurd (no (sym (rw (n, lt-ltb (m .retries .count) 32 room-left) at e)))
 
-ends-one : (m : Machine) (h : Standing m) (b : Beside) (id : ℕ) (o : Outcome) (c : InputChange) → Ended (m .rules .ech) (m .attempts) (m .retries .count) id o c → EndsOne m id o b (fed m c b)
+ends-one : (m : Machine) (h : Standing m) (b : Beside) (id : ℕ) (o : Outcome) (c : InputChange)
+    → Ended (m .rules .ech) (m .attempts) (m .retries .count) id o c → EndsOne m id o b (fed m c b)
 ends-one m h b id o c f = record { place = f .place; within = omega (arith, f .within); own = f .own; ends = by (attemptAt (m .attempts) (f .place) .state) refl (f .ends) }
   where
-    by : (t : State) → attemptAt (m .attempts) (f .place) .state ≡ t → Ends (m .rules .ech) (m .retries .count) (f .place) (attemptAt (m .attempts) (f .place)) o c t → EndsAs m (f .place) o b (fed m c b) t
+    by : (t : State) → attemptAt (m .attempts) (f .place) .state ≡ t
+        → Ends (m .rules .ech) (m .retries .count) (f .place) (attemptAt (m .attempts) (f .place)) o c t → EndsAs m (f .place) o b (fed m c b) t
     by state.InProgress e g = rw (g .1) (ends-as m h b (f .place) (omega (arith, f .within)) (rw e) o (again (attemptAt (m .attempts) (f .place)) (m .retries .count) o) refl)
     by state.Succeeded e g = absurd g
     by state.Failed e g = absurd g
     by state.Cancelled e g = rw g
 
 -- An accepted result ends its attempt as it says; of an attempt that was cancelled nothing changes.
-pub result-ends : (m : Machine) (now : ℕ) (o : Outcome) (id : ℕ) (b : Beside) → standing m ≡ true → inputStep m now (resultOf o id) b .taken ≡ Accepted → EndsOne m id o b (inputStep m now (resultOf o id) b .machine)
+pub result-ends : (m : Machine) (now : ℕ) (o : Outcome) (id : ℕ) (b : Beside) → standing m ≡ true
+    → inputStep m now (resultOf o id) b .taken ≡ Accepted → EndsOne m id o b (inputStep m now (resultOf o id) b .machine)
 unfolding inputStep judged
 result-ends m now o id b h e =
     let v = accepts (judged m now (resultOf o id)) e in

@@ -49,7 +49,8 @@ module _ (k : ℕ) (rs : List ℕ) (n n′ : Names) (e e′ : Echs) (names : (p 
   shown-same x h = λ j. record { target = target-same (x .target) (left _ _ h) j; port = x .port; rank = x .rank; ech = ech-same (x .ech) (right _ _ h) j }
 
 -- the places of each attempt are known
-known : (m : Machine) → Standing m → (p : ℕ) → p < m .attempts .count → endpointIn (phase (m .queries)) (retriesOf (m .retries)) (attemptAt (m .attempts) p .endpoint) ≡ true
+known : (m : Machine) → Standing m → (p : ℕ) → p < m .attempts .count
+    → endpointIn (phase (m .queries)) (retriesOf (m .retries)) (attemptAt (m .attempts) p .endpoint) ≡ true
 known m h p b =
     let fit : m .attempts .count ≤ length (m .attempts .list) = omega (arith, h .room .attempts .size, h .room .attempts .few) in
     rw (getD-take (m .attempts .count) (m .attempts .list) p noAttempt b) at

@@ -28,5 +28,6 @@ events-stand m [] h s = h
 events-stand m (e ∷ es) h s = events-stand (after m e) es (event-stands m e h (left _ _ s)) (right _ _ s)
 
 -- Every machine that a history reaches keeps the standing rules.
-pub reached-stands : (r : Rules) (t : Timing) (l : Alts) (n : Names) (es : List Event) → configurationSound r l n ≡ true → every inForm es ≡ true → standing (afterAll (made r t l n) es) ≡ true
+pub reached-stands : (r : Rules) (t : Timing) (l : Alts) (n : Names) (es : List Event) → configurationSound r l n ≡ true → every inForm es ≡ true
+    → standing (afterAll (made r t l n) es) ≡ true
 reached-stands r t l n es c s = stands (events-stand (made r t l n) es (parts _ (made-stands r t l n c)) s)

@@ -21,24 +21,21 @@ use Rattle.state.specs.declared.attempts.State.the-variants as state
 use Rattle.state.specs.declared.changes.InputChange.{InputChange}
 use Rattle.state.specs.declared.changes.InputChange.the-variants as change
 use Rattle.state.specs.declared.changes.Round.{Round}
-use Rattle.input.specs.Input.{recordAt, attemptAt, withAnswer, isFailed, storedAt, verdictOf}
+use Rattle.input.specs.Input.{recordAt, attemptAt, withAnswer, isFailed, storedAt}
 use Rattle.input.specs.Verdicts.{Waits, MayBe, Answered, Ended, Ends, Fits, again, endOf, refreshAfter}
 use Rattle.input.specs.declared.Input.{Input}
-use Rattle.input.specs.declared.Input.the-variants as input
 use Rattle.input.specs.declared.Outcome.{Outcome}
 use Rattle.input.specs.declared.Outcome.the-variants as outcome
-use Rattle.input.specs.declared.Verdict.{Verdict}
-use Rattle.input.specs.declared.Verdict.the-variants.{Accepted, Refused}
-use Rattle.input.proofs.Laws.{held-after, failed-after, ended-after}
-use Rattle.machine.specs.Steps.{fed, changeOf, judged, inputStep}
+use Rattle.machine.specs.Steps.{fed, inputStep}
 use Rattle.machine.specs.declared.calls.Beside.{Beside}
 use Rattle.standing.specs.Lists.{_and_}
 use Rattle.standing.specs.Standing.{keyOf, keys, isHttps, httpsFirst, heldOf, standing}
-use Rattle.standing.specs.Sound.{echSound, answerSound, sound}
+use Rattle.standing.specs.Sound.{answerSound, sound}
 use Rattle.standing.proofs.Lists.{no, left, right, every-at, used-length}
 use Rattle.standing.proofs.Parts.{Standing, stands, parts}
 use Rattle.standing.proofs.Trying.{result-stands, retry-stands}
 use Rattle.standing.proofs.Answering.{addresses-stand}
+use Rattle.standing.proofs.Taken.{resultSound, every-input}
 use Rattle.standing.proofs.Offering.{empties-stand, offers-stand}
 
 -- an HTTPS record is record 0
@@ -61,12 +58,6 @@ retry-mark false room e = refl
 sent-ech : (on ech : Bool) → (on && ech) ≡ true → ech ≡ true
 sent-ech true ech e = e
 sent-ech false ech e = absurd (no e)
-
--- what comes with a result is sound
-abbrev resultSound : Outcome → Beside → Bool
-resultSound outcome.Success b = true
-resultSound outcome.Failure b = true
-resultSound outcome.EchRetry b = echSound true (b .retry)
 
 module _ (m : Machine) (h : Standing m) (beside : Beside) where
   -- Answers
@@ -124,22 +115,10 @@ module _ (m : Machine) (h : Standing m) (beside : Beside) where
         by state.Failed e g = absurd g
         by state.Cancelled e g = rw g h
 
-  -- The whole
-
-  accepted-stands : (on : Bool) (now : ℕ) (i : Input) (c : InputChange) → sound i beside ≡ true → verdictOf on (m .queries) (m .attempts) (m .retries .count) i now ≡ Accepted c → Standing (fed m c beside)
-  accepted-stands on now (input.Fails k id stale) c s e = answer-stands k id stale (Failed now) refl s c (failed-after on (m .queries) (m .attempts) (m .retries .count) now k id stale c e)
-  accepted-stands on now (input.Holds k id stale n) c s e = answer-stands k id stale (Held now n) refl s c (held-after on (m .queries) (m .attempts) (m .retries .count) now k id stale n c e)
-  accepted-stands on now (input.Success id) c s e = result-kept on id outcome.Success c refl (ended-after on (m .queries) (m .attempts) (m .retries .count) now outcome.Success id c e)
-  accepted-stands on now (input.Failure id) c s e = result-kept on id outcome.Failure c refl (ended-after on (m .queries) (m .attempts) (m .retries .count) now outcome.Failure id c e)
-  accepted-stands on now (input.EchRetry id) c s e = result-kept on id outcome.EchRetry c s (ended-after on (m .queries) (m .attempts) (m .retries .count) now outcome.EchRetry id c e)
-
-  judged-stands : (on : Bool) (now : ℕ) (i : Input) → sound i beside ≡ true → (v : Verdict) → verdictOf on (m .queries) (m .attempts) (m .retries .count) i now ≡ v → Standing (fed m (changeOf v) beside)
-  judged-stands on now i s (Accepted c) e = accepted-stands on now i c s e
-  judged-stands on now i s (Refused r) e = h
-
 pub input-stands : (m : Machine) (now : ℕ) (i : Input) (b : Beside) → Standing m → sound i b ≡ true → Standing (inputStep m now i b .machine)
-unfolding inputStep judged
-input-stands m now i b h s = judged-stands m h b (m .rules .ech) now i s (judged m now i) refl
+unfolding inputStep
+input-stands m now i b h s =
+    every-input m now b (λ t. t ≡ true) (λ c. Standing (fed m c b)) h (answer-stands m h b) (λ id o f c. result-kept m h b (m .rules .ech) id o c f) i s
 
 -- Every input that is in form keeps the standing rules, accepted or not, at whatever moment it comes.
 pub input-keeps : (m : Machine) (now : ℕ) (i : Input) (b : Beside) → standing m ≡ true → sound i b ≡ true → standing (inputStep m now i b .machine) ≡ true

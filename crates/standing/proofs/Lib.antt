@@ -8,6 +8,7 @@ pub mod Trying
 pub mod Answering
 pub mod Https
 pub mod Offering
+pub mod Taken
 pub mod Inputs
 pub mod Order
 pub mod Wanting
@@ -21,3 +22,4 @@ pub mod Events
 pub mod Onward
 pub mod Attempted
 pub mod Succeeded
+pub mod Once

@@ -34,18 +34,13 @@ use Rattle.state.specs.declared.changes.Round.{Round}
 use Rattle.state.specs.declared.changes.Round.the-variants.{First, Second}
 use Rattle.state.specs.declared.changes.CallChange.{CallChange}
 use Rattle.state.specs.declared.changes.CallChange.the-variants as calls
-use Rattle.input.specs.Input.{recordAt, attemptAt, withAnswer, isFailed, storedAt, verdictOf}
+use Rattle.input.specs.Input.{recordAt, attemptAt, withAnswer, isFailed, storedAt}
 use Rattle.input.specs.Verdicts.{Waits, MayBe, Answered, Ended, Ends, again, endOf, refreshAfter}
-use Rattle.input.specs.declared.Input.{Input}
-use Rattle.input.specs.declared.Input.the-variants as input
 use Rattle.input.specs.declared.Outcome.{Outcome}
 use Rattle.input.specs.declared.Outcome.the-variants as outcome
-use Rattle.input.specs.declared.Verdict.{Verdict}
-use Rattle.input.specs.declared.Verdict.the-variants.{Accepted, Refused}
-use Rattle.input.proofs.Laws.{held-after, failed-after, ended-after}
 use Rattle.machine.specs.After.{queriesCalled, attemptsCalled, putQuery, putAttempt, putEchs, putEch}
 use Rattle.machine.specs.Output.{wishOf, only, newQuery, refreshed, queryGrant, attemptGrant, grantOf, granted}
-use Rattle.machine.specs.Steps.{called, fed, changeOf, turnOf, outputStep, judged, inputStep}
+use Rattle.machine.specs.Steps.{called, fed, turnOf, outputStep, inputStep}
 use Rattle.machine.specs.declared.calls.Beside.{Beside}
 use Rattle.machine.specs.declared.grant.Output.the-variants as output
 use Rattle.machine.specs.declared.grant.Table.the-variants as table
@@ -55,7 +50,7 @@ use Rattle.machine.specs.declared.after.TargetEchs.{TargetEchs}
 use Rattle.standing.specs.Lists.{_and_, _or_, every, has}
 use Rattle.standing.specs.Standing.{named, kept, phase, refused, heldOf, idle}
 use Rattle.standing.specs.Kept.{Event, call, feed, inForm, after}
-use Rattle.standing.specs.Sound.{servicesSound, answerSound, sound}
+use Rattle.standing.specs.Sound.{servicesSound, answerSound}
 use Rattle.standing.proofs.Lists.{no, left, right, rule, or-second, sets-before, sets-past}
 use Rattle.standing.proofs.Parts.{Standing}
 use Rattle.standing.proofs.Https.{before, name-stays, phase-was}
@@ -63,6 +58,7 @@ use Rattle.standing.proofs.Tables.{query-more, query-put, attempt-more,
 use Rattle.standing.proofs.Answering.{resting-of}
 use Rattle.standing.proofs.Outputs.{Says, wish-says}
 use Rattle.standing.proofs.Inputs.{only-first}
+use Rattle.standing.proofs.Taken.{every-input}
 use Rattle.standing.proofs.Trying.{marks, unmarked}
 
 -- ECH bytes that are in use
@@ -83,7 +79,8 @@ ech-outside Second rs p h = go (ltb p 4) (ltb p 8) refl refl h
     go false false e f g = inr (ltb-false p 8 f)
 
 -- a place that is in use isn't written over by an answer
-pub ech-stays : (e : Echs) (round : Round) (t : TargetEchs) (rs : List ℕ) (p : ℕ) → length (t .list) ≡ 4 → kept (before round) rs p ≡ true → echAt (putEchs e round t) p ≡ echAt e p
+pub ech-stays : (e : Echs) (round : Round) (t : TargetEchs) (rs : List ℕ) (p : ℕ) → length (t .list) ≡ 4 → kept (before round) rs p ≡ true
+    → echAt (putEchs e round t) p ≡ echAt e p
 unfolding echAt putEchs
 ech-stays e round t rs p l h =
     ⊎-elim
@@ -98,7 +95,8 @@ kept-retry k rs i p n h e =
     let z : 8 + i - 8 ≡ i = omega arith in
     no (sym n ∙ (rw (e, le-ltb (8 + i) 4 (omega arith), le-ltb (8 + i) 8 (omega arith), z) at h))
 
-pub ech-stays-retry : (e : Echs) (k : ℕ) (rs : List ℕ) (i : ℕ) (x : Ech) (p : ℕ) → has i rs ≡ false → kept k rs p ≡ true → echAt (putEch e i x) p ≡ echAt e p
+pub ech-stays-retry : (e : Echs) (k : ℕ) (rs : List ℕ) (i : ℕ) (x : Ech) (p : ℕ) → has i rs ≡ false → kept k rs p ≡ true
+    → echAt (putEch e i x) p ≡ echAt e p
 unfolding echAt putEch
 ech-stays-retry e k rs i x p n h = go (ltb i 32)
   where
@@ -179,7 +177,8 @@ module _ (m : Machine) (h : Standing m) where
       x : Attempt
       x = withState (attemptAt a i) s
 
-      go : (P : Attempt → Attempt → Type 0) → P x (attemptAt a i) → ((y : Attempt) → P y y) → (p : ℕ) (t : Bool) → eqb p i ≡ t → P (getD (set (a .list) i x) p noAttempt) (attemptAt a p)
+      go : (P : Attempt → Attempt → Type 0) → P x (attemptAt a i) → ((y : Attempt) → P y y) → (p : ℕ) (t : Bool) → eqb p i ≡ t
+          → P (getD (set (a .list) i x) p noAttempt) (attemptAt a p)
       go P here there p true e = rw (eqb-true p i e, getD-set-same (a .list) i x noAttempt (omega (arith, fit))) here
       go P here there p false e = rw (getD-set-other (a .list) i p x noAttempt (eqb-false p i e)) (there (attemptAt a p))
 
@@ -194,7 +193,8 @@ module _ (m : Machine) (h : Standing m) where
       old p c = getD-set-other (q .list) (q .count) p x noQuery (λ e. omega arith)
 
   -- one changed that is for the same, and whose refresh, once begun, stays so
-  keys-put : (i : ℕ) (x : Query) → i < q .count → x .kind ≡ recordAt q i .kind → x .name ≡ recordAt q i .name → (idle (recordAt q i .refresh) ≡ false → idle (x .refresh) ≡ false) → Records q (putQuery q i x)
+  keys-put : (i : ℕ) (x : Query) → i < q .count → x .kind ≡ recordAt q i .kind → x .name ≡ recordAt q i .name
+      → (idle (recordAt q i .refresh) ≡ false → idle (x .refresh) ≡ false) → Records q (putQuery q i x)
   keys-put i x b kind name refresh =
       rw (query-put q i x b (h .room .queries .few))
       (record {
@@ -204,7 +204,8 @@ module _ (m : Machine) (h : Standing m) where
         begun = λ p c. go (λ y z. idle (z .refresh) ≡ false → idle (y .refresh) ≡ false) refresh (λ y e. e) p (eqb p i) refl;
       })
     where
-      go : (P : Query → Query → Type 0) → P x (recordAt q i) → ((y : Query) → P y y) → (p : ℕ) (t : Bool) → eqb p i ≡ t → P (getD (set (q .list) i x) p noQuery) (recordAt q p)
+      go : (P : Query → Query → Type 0) → P x (recordAt q i) → ((y : Query) → P y y) → (p : ℕ) (t : Bool) → eqb p i ≡ t
+          → P (getD (set (q .list) i x) p noQuery) (recordAt q p)
       go P here there p true e = rw (eqb-true p i e, getD-set-same (q .list) i x noQuery (omega (arith, h .room .queries .size, h .room .queries .few))) here
       go P here there p false e = rw (getD-set-other (q .list) i p x noQuery (eqb-false p i e)) (there (recordAt q p))
 
@@ -254,7 +255,8 @@ module _ (m : Machine) (h : Standing m) where
   -- Inputs
 
   module _ (b : Beside) where
-    https-on : (p : ℕ) → p < q .count → p ≡ 0 → recordAt q p .kind ≡ Https → (t : Answer) (stale : Bool) (id : ℕ) (round : Round) → Waits round id (recordAt q p) → MayBe round stale
+    https-on : (p : ℕ) → p < q .count → p ≡ 0 → recordAt q p .kind ≡ Https → (t : Answer) (stale : Bool) (id : ℕ) (round : Round)
+        → Waits round id (recordAt q p) → MayBe round stale
         → answered t ≡ true → answerSound Https (heldOf t) b ≡ true → (x : Query) → Records q (putQuery q p x) → Onward m (fed m (storedAt p x (isFailed t) round Https) b)
     unfolding servicesSound
     https-on (suc p) c z e t stale id round w f come s x r = absurd (omega arith)
@@ -270,7 +272,8 @@ module _ (m : Machine) (h : Standing m) where
         }
 
     -- a refresh that was begun is one that is waited for, and done with the answer
-    still-begun : (p : ℕ) → p < q .count → (round : Round) (id : ℕ) → Waits round id (recordAt q p) → idle (recordAt q p .refresh) ≡ false → idle (refreshAfter round) ≡ false
+    still-begun : (p : ℕ) → p < q .count → (round : Round) (id : ℕ) → Waits round id (recordAt q p) → idle (recordAt q p .refresh) ≡ false
+        → idle (refreshAfter round) ≡ false
     still-begun p c First id w e = absurd (no (sym (rw (resting-of m h p c Pending false id (w .1)) at e)))
     still-begun p c Second id w e = refl
 
@@ -284,7 +287,8 @@ module _ (m : Machine) (h : Standing m) where
       same-key : Records q (putQuery q (f .place) new)
       same-key = keys-put (f .place) new inside refl refl (still-begun (f .place) inside (f .round) id (f .waits))
 
-      by-kind : (j : Kind) → recordAt q (f .place) .kind ≡ j → answerSound j (heldOf t) b ≡ true → Onward m (fed m (storedAt (f .place) new (isFailed t) (f .round) j) b)
+      by-kind : (j : Kind) → recordAt q (f .place) .kind ≡ j → answerSound j (heldOf t) b ≡ true
+          → Onward m (fed m (storedAt (f .place) new (isFailed t) (f .round) j) b)
       by-kind Https e s =
           https-on (f .place) inside (only-first q (f .place) inside (omega (arith, h .room .queries .size, h .room .queries .few)) e (h .records .https)) e t stale id (f .round) (f .waits) (f .fresh) come s new same-key
       by-kind Aaaa e s = record { trials = same-all; records = same-key; names = λ p g. refl; echs = λ p g. refl }
@@ -313,25 +317,14 @@ module _ (m : Machine) (h : Standing m) where
         ended true e = record { trials = same-put (f .place) (endOf o) inside (closed-end o); records = keys-all; names = λ p g. refl; echs = λ p g. ech-stays-retry (m .echs) k rs (f .place) (b .retry) p (none-came (f .place) inside e) g }
         ended false e = record { trials = same-put (f .place) (endOf o) inside (closed-end o); records = keys-all; names = λ p g. refl; echs = λ p g. refl }
 
-        by : (t : State) → attemptAt a (f .place) .state ≡ t → Ends (m .rules .ech) (m .retries .count) (f .place) (attemptAt a (f .place)) o c t → Onward m (fed m c b)
+        by : (t : State) → attemptAt a (f .place) .state ≡ t → Ends (m .rules .ech) (m .retries .count) (f .place) (attemptAt a (f .place)) o c t
+            → Onward m (fed m c b)
         by state.InProgress e g = rw (g .1) (ended (again (attemptAt a (f .place)) (m .retries .count) o) (rw e))
         by state.Succeeded e g = absurd g
         by state.Failed e g = absurd g
         by state.Cancelled e g = rw g on
 
-    accepted-on : (now : ℕ) (i : Input) (c : InputChange) → sound i b ≡ true → verdictOf (m .rules .ech) q a (m .retries .count) i now ≡ Accepted c → Onward m (fed m c b)
-    accepted-on now (input.Fails k id stale) c s e = answer-on k id stale (Failed now) refl s c (failed-after (m .rules .ech) q a (m .retries .count) now k id stale c e)
-    accepted-on now (input.Holds k id stale n) c s e = answer-on k id stale (Held now n) refl s c (held-after (m .rules .ech) q a (m .retries .count) now k id stale n c e)
-    accepted-on now (input.Success id) c s e = result-on id outcome.Success c (ended-after (m .rules .ech) q a (m .retries .count) now outcome.Success id c e)
-    accepted-on now (input.Failure id) c s e = result-on id outcome.Failure c (ended-after (m .rules .ech) q a (m .retries .count) now outcome.Failure id c e)
-    accepted-on now (input.EchRetry id) c s e = result-on id outcome.EchRetry c (ended-after (m .rules .ech) q a (m .retries .count) now outcome.EchRetry id c e)
-
-    judged-on : (now : ℕ) (i : Input) → sound i b ≡ true → (v : Verdict) → judged m now i ≡ v → Onward m (fed m (changeOf v) b)
-    unfolding judged
-    judged-on now i s (Accepted c) e = accepted-on now i c s e
-    judged-on now i s (Refused r) e = on
-
   pub event-onward : (e : Event) → inForm e ≡ true → Onward m (after m e)
   unfolding inputStep
   event-onward (call now) s = call-onward now
-  event-onward (feed now i b) s = judged-on b now i s (judged m now i) refl
+  event-onward (feed now i b) s = every-input m now b (λ t. t ≡ true) (λ c. Onward m (fed m c b)) on (answer-on b) (λ id o f c. result-on b id o c) i s

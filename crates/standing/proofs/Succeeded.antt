@@ -10,7 +10,7 @@ use lib.Seq.{getD-take}
 use Rattle.records.specs.Endpoints.{sameEndpoint}
 use Rattle.records.specs.Names.{sameAt}
 use Rattle.records.specs.declared.queries.Answer.{Answer}
-use Rattle.records.specs.declared.queries.Answer.the-variants.{Failed, Held}
+use Rattle.records.specs.declared.queries.Answer.the-variants.{Failed}
 use Rattle.records.specs.declared.queries.Kind.{Kind}
 use Rattle.records.specs.declared.queries.Kind.the-variants.{Https, Aaaa, A}
 use Rattle.records.specs.declared.queries.Query.{Query}
@@ -22,15 +22,9 @@ use Rattle.state.specs.declared.attempts.Attempt.{Attempt}
 use Rattle.state.specs.declared.attempts.Attempts.{Attempts}
 use Rattle.state.specs.declared.changes.InputChange.{InputChange}
 use Rattle.state.specs.declared.changes.Round.{Round}
-use Rattle.input.specs.Input.{recordAt, attemptAt, withAnswer, isFailed, storedAt, verdictOf}
+use Rattle.input.specs.Input.{recordAt, attemptAt, withAnswer, isFailed, storedAt}
 use Rattle.input.specs.Verdicts.{attemptsIn, Answered, Ended, Ends, refreshAfter}
-use Rattle.input.specs.declared.Input.{Input}
-use Rattle.input.specs.declared.Input.the-variants as input
 use Rattle.input.specs.declared.Outcome.{Outcome}
-use Rattle.input.specs.declared.Outcome.the-variants as outcome
-use Rattle.input.specs.declared.Verdict.{Verdict}
-use Rattle.input.specs.declared.Verdict.the-variants.{Accepted, Refused}
-use Rattle.input.proofs.Laws.{held-after, failed-after, ended-after}
 use Rattle.starting.specs.Surveys.{firstPlace, triesOf, asksOf, hintsOf, isOpenAttempt}
 use Rattle.starting.specs.Next.{nextRetry, nextEndpoint}
 use Rattle.starting.specs.Wanted.{nextQuery}
@@ -45,8 +39,7 @@ use Rattle.starting.specs.declared.wanted.Wanted.{Wanted}
 use Rattle.starting.specs.declared.wanted.Wanted.the-variants as wanted
 use Rattle.machine.specs.After.{attemptsFed}
 use Rattle.machine.specs.Output.{endWish, lastWish, timerWish, refreshWish, queryWish, attemptWish, retryWish, gate, wishBy, wishOf, reasonOf, queryGrant, attemptGrant, grantOf, granted}
-use Rattle.machine.specs.Steps.{changeOf, turnOf, outputStep, judged, inputStep}
-use Rattle.machine.specs.declared.calls.Beside.{Beside}
+use Rattle.machine.specs.Steps.{turnOf, outputStep, inputStep}
 use Rattle.machine.specs.declared.grant.Output.{Output}
 use Rattle.machine.specs.declared.grant.Output.the-variants as output
 use Rattle.machine.specs.declared.grant.Turn.{Turn}
@@ -54,6 +47,7 @@ use Rattle.machine.specs.declared.wish.Wish.{Wish}
 use Rattle.machine.specs.declared.wish.Wish.the-variants as wish
 use Rattle.standing.specs.Kept.{Event, call, feed, after, afterAll}
 use Rattle.standing.proofs.Lists.{no}
+use Rattle.standing.proofs.Taken.{every-input}
 
 abbrev isSucceeded : Output → Bool
 isSucceeded output.Waiting = false
@@ -168,13 +162,14 @@ nowhere : (t : Bool) (i : ℕ) (p : Place) → cond t (place.At i) p ≡ place.N
 nowhere true i p e = absurd (let z : _≡_ {A = ℕ} 0 1 = cc in omega arith)
 nowhere false i p e = (refl, e)
 
-none-passes : {B : Type 0} (test : B → Bool) (i : ℕ) (l : List B) (p : ℕ) (d : B) → firstPlace test i l ≡ place.Nowhere → p < length l → test (getD l p d) ≡ true → ⊥
+none-passes : {B : Type 0} (test : B → Bool) (i : ℕ) (l : List B) (p : ℕ) (d : B) → firstPlace test i l ≡ place.Nowhere → p < length l
+    → test (getD l p d) ≡ true → ⊥
 unfolding firstPlace
 none-passes test i [] p d e b f = omega arith
 none-passes test i (x ∷ l) zero d e b f = no (sym (nowhere (test x) i (firstPlace test (i + 1) l) e .0) ∙ f)
 none-passes test i (x ∷ l) (suc p) d e b f = none-passes test (i + 1) l p d (nowhere (test x) i (firstPlace test (i + 1) l) e .1) (omega arith) f
 
-module _ (m : Machine) (o : Over (m .attempts)) (b : Beside) where
+module _ (m : Machine) (o : Over (m .attempts)) where
   abbrev a : Attempts
   a = m .attempts
 
@@ -189,28 +184,18 @@ module _ (m : Machine) (o : Over (m .attempts)) (b : Beside) where
   result-same : (id : ℕ) (x : Outcome) (c : InputChange) → Ended (m .rules .ech) a (m .retries .count) id x c → attemptsFed a c ≡ a
   result-same id x c f = by (attemptAt a (f .place) .state) refl (f .ends)
     where
-      by : (t : State) → attemptAt a (f .place) .state ≡ t → Ends (m .rules .ech) (m .retries .count) (f .place) (attemptAt a (f .place)) x c t → attemptsFed a c ≡ a
+      by : (t : State) → attemptAt a (f .place) .state ≡ t → Ends (m .rules .ech) (m .retries .count) (f .place) (attemptAt a (f .place)) x c t
+          → attemptsFed a c ≡ a
       by state.InProgress e g = absurd (not-open (f .place) (f .within) e)
       by state.Succeeded e g = absurd g
       by state.Failed e g = absurd g
       by state.Cancelled e g = rw g
 
-  accepted-same : (now : ℕ) (i : Input) (c : InputChange) → verdictOf (m .rules .ech) (m .queries) a (m .retries .count) i now ≡ Accepted c → attemptsFed a c ≡ a
-  accepted-same now (input.Fails k id stale) c e = answer-same k id stale (Failed now) c (failed-after (m .rules .ech) (m .queries) a (m .retries .count) now k id stale c e)
-  accepted-same now (input.Holds k id stale n) c e = answer-same k id stale (Held now n) c (held-after (m .rules .ech) (m .queries) a (m .retries .count) now k id stale n c e)
-  accepted-same now (input.Success id) c e = result-same id outcome.Success c (ended-after (m .rules .ech) (m .queries) a (m .retries .count) now outcome.Success id c e)
-  accepted-same now (input.Failure id) c e = result-same id outcome.Failure c (ended-after (m .rules .ech) (m .queries) a (m .retries .count) now outcome.Failure id c e)
-  accepted-same now (input.EchRetry id) c e = result-same id outcome.EchRetry c (ended-after (m .rules .ech) (m .queries) a (m .retries .count) now outcome.EchRetry id c e)
-
-  judged-same : (now : ℕ) (i : Input) (v : Verdict) → judged m now i ≡ v → attemptsFed a (changeOf v) ≡ a
-  unfolding judged
-  judged-same now i (Accepted c) e = accepted-same now i c e
-  judged-same now i (Refused r) e = refl
-
 event-same : (m : Machine) (e : Event) → Over (m .attempts) → after m e .attempts ≡ m .attempts
 unfolding inputStep
 event-same m (call now) o = called-same m now o
-event-same m (feed now i b) o = judged-same m o b now i (judged m now i) refl
+event-same m (feed now i b) o =
+    every-input m now b (λ t. Unit {0}) (λ c. attemptsFed (m .attempts) c ≡ m .attempts) refl (λ k id stale t e f. answer-same m o k id stale t) (λ id x f. result-same m o id x) i tt
 
 over-after : (m : Machine) (es : List Event) → Over (m .attempts) → Over (afterAll m es .attempts)
 unfolding afterAll
@@ -218,5 +203,6 @@ over-after m [] o = o
 over-after m (e ∷ es) o = over-after (after m e) es (rw (event-same m e o) o)
 
 -- Once Succeeded is given, every later call gives it, at any moment and after any events. No rule is needed for this, standing or of form.
-pub succeeded-forever : (m : Machine) (now : ℕ) (es : List Event) (later : ℕ) → outputStep m now .output ≡ output.Succeeded → outputStep (afterAll m es) later .output ≡ output.Succeeded
+pub succeeded-forever : (m : Machine) (now : ℕ) (es : List Event) (later : ℕ) → outputStep m now .output ≡ output.Succeeded
+    → outputStep (afterAll m es) later .output ≡ output.Succeeded
 succeeded-forever m now es later e = over-given (afterAll m es) later (over-after m es (given-over m now e))

@@ -1,12 +1,13 @@
--- What the theorems about whole machines say: rooms, what is shown of an attempt, and what a step leaves.
+-- What the theorems about whole machines say: of rooms, of accepted inputs, of what was attempted, and of what is asked for.
 use Prim.Native.Nat.{ℕ, _+_, _<_, _≤_}
 use mathlib.Core.Path.{_≡_}
 use mathlib.Core.Bool.{Bool, true, false}
 use mathlib.Core.List.{List, [], _∷_, _++_}
+use mathlib.Core.Option.{Option, none, some}
 use lib.ListN.{length, getD, take}
 use Rattle.records.specs.Endpoints.{Shown, shown}
 use Rattle.records.specs.Lists.{padded}
-use Rattle.records.specs.Names.{nameAt, echAt, blankName, blankEch}
+use Rattle.records.specs.Names.{nameAt, echAt, nameBytesAt, blankName, blankEch}
 use Rattle.records.specs.Queries.{noQuery, noAddr, blankAddresses}
 use Rattle.records.specs.Rules.{noAlt}
 use Rattle.records.specs.Services.{noService, noServices, noHint, blankService, offered}
@@ -27,7 +28,9 @@ use Rattle.input.specs.declared.Outcome.the-variants as outcome
 use Rattle.machine.specs.After.{placedServices}
 use Rattle.machine.specs.Steps.{outputStep, inputStep}
 use Rattle.machine.specs.declared.calls.Beside.{Beside}
-use Rattle.standing.specs.Standing.{held}
+use Rattle.machine.specs.declared.grant.Output.{Output}
+use Rattle.machine.specs.declared.grant.Output.the-variants as output
+use Rattle.standing.specs.Standing.{held, idle}
 use Rattle.standing.specs.Sound.{sound}
 
 -- Rooms
@@ -51,12 +54,13 @@ pub record Rooms (m : Machine) : Type 0 where
 
 -- Accepted inputs
 
--- what came with an answer, for the record at p of its type: its addresses, no service where it failed, or services with names and ECH bytes
+-- the services of an HTTPS answer, with their names and ECH bytes at the places of its round
 pub record Offered (round : Round) (b : Beside) (after : Machine) : Type 0 where
   pub services : after .services ≡ placedServices (b .services) round
   pub names : (i : ℕ) → i < 4 → nameAt (after .names) (firstName round + i) ≡ getD (b .names .list) i blankName
   pub echs : (i : ℕ) → i < 4 → echAt (after .echs) (firstEch round + i) ≡ getD (b .echs .list) i blankEch
 
+-- what came with an answer of record p: of an HTTPS answer its services, none where it failed, of another its addresses
 abbrev pub Brought : ℕ → Round → Beside → Machine → Bool → Kind → Type 0
 Brought p round b after true Https = after .services ≡ noServices
 Brought p round b after false Https = Offered round b after
@@ -81,18 +85,20 @@ Again m p b after outcome.Failure = Unit {0}
 Again m p b after outcome.EchRetry =
     attemptAt (m .attempts) p .retry ≡ false → (retriesOf (after .retries) ≡ retriesOf (m .retries) ++ (p ∷ [])) × (echAt (after .echs) (8 + p) ≡ b .retry)
 
--- the attempt with the id ends as the result says, and no other changes; where it was cancelled, nothing changes
+-- the attempt at p ends as the result says, and no other changes
 pub record EndsNow (m : Machine) (p : ℕ) (o : Outcome) (b : Beside) (after : Machine) : Type 0 where
   pub now : attemptAt (after .attempts) p ≡ withState (attemptAt (m .attempts) p) (endOf o)
   pub others : (j : ℕ) → (j ≡ p → ⊥) → attemptAt (after .attempts) j ≡ attemptAt (m .attempts) j
   pub again : Again m p b after o
 
+-- that is so of one in progress; where it was cancelled, nothing changes, and no other takes a result
 abbrev pub EndsAs : Machine → ℕ → Outcome → Beside → Machine → State → Type 0
 EndsAs m p o b after state.InProgress = EndsNow m p o b after
 EndsAs m p o b after state.Succeeded = ⊥
 EndsAs m p o b after state.Failed = ⊥
 EndsAs m p o b after state.Cancelled = after ≡ m
 
+-- the attempt that has the id
 pub record EndsOne (m : Machine) (id : ℕ) (o : Outcome) (b : Beside) (after : Machine) : Type 0 where
   pub place : ℕ
   pub within : place < m .attempts .count
@@ -130,3 +136,49 @@ pub record Attempted (m later : Machine) : Type 0 where
   pub same : (p : ℕ) → p < m .attempts .count → shownAt later p ≡ shownAt m p
   pub ids : (p : ℕ) → p < m .attempts .count → attemptAt (later .attempts) p .id ≡ attemptAt (m .attempts) p .id
   pub ended : (p : ℕ) → p < m .attempts .count → isOpen (attemptAt (m .attempts) p .state) ≡ false → isOpen (attemptAt (later .attempts) p .state) ≡ false
+
+-- Asked once
+
+-- what an output asks for, with its bytes: an answer of a type for a name, as a new record's or anew; an attempt; that an attempt ends
+pub data Ask : Type 0 where
+  query : Kind → List ℕ → Ask
+  refresh : Kind → List ℕ → Ask
+  attempt : Shown → Ask
+  cancel : ℕ → Ask
+
+-- a refresh is the query that allows no stale answer
+abbrev pub queryAsk : Bool → Kind → List ℕ → Ask
+queryAsk true k x = query k x
+queryAsk false k x = refresh k x
+
+abbrev pub askOf : Machine → Output → Option Ask
+askOf m output.Waiting = none
+askOf m (output.Query i k stale p) = some (queryAsk stale k (nameBytesAt (m .names) p))
+askOf m (output.Timer n) = none
+askOf m (output.Attempt i r e) = some (attempt (shown (m .names) (m .echs) e))
+askOf m (output.Cancel i) = some (cancel i)
+askOf m output.Succeeded = none
+askOf m (output.Failed r) = none
+askOf m (output.Full t) = none
+
+-- what a call at a moment asks for
+abbrev pub asksAt : Machine → ℕ → Option Ask
+asksAt m now = askOf m (outputStep m now .output)
+
+-- record p is for that type and name
+pub record IsFor (m : Machine) (k : Kind) (x : List ℕ) (p : ℕ) : Type 0 where
+  pub within : p < m .queries .count
+  pub kind : recordAt (m .queries) p .kind ≡ k
+  pub name : nameBytesAt (m .names) (recordAt (m .queries) p .name) ≡ x
+
+-- it is in the tables: a record, a record whose refresh is begun, an attempt, an attempt that has ended
+abbrev pub Asked : Machine → Ask → Type 0
+Asked m (query k x) = (p : ℕ) × IsFor m k x p
+Asked m (refresh k x) = (p : ℕ) × IsFor m k x p × (idle (recordAt (m .queries) p .refresh) ≡ false)
+Asked m (attempt e) = (p : ℕ) × (p < m .attempts .count) × (shownAt m p ≡ e)
+Asked m (cancel i) = (p : ℕ) × (p < m .attempts .count) × (attemptAt (m .attempts) p .id ≡ i) × (isOpen (attemptAt (m .attempts) p .state) ≡ false)
+
+-- what is asked for was not asked for before, and is in the tables afterwards
+pub record Once (m later : Machine) (x : Ask) : Type 0 where
+  pub new : Asked m x → ⊥
+  pub held : Asked later x
