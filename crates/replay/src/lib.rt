@@ -1,4 +1,4 @@
-// Tapes: frames, replay, tape check (document 01, "Refusal numbers" and part 8).
+// Tapes: their frames, and their events replayed (document 01, "Refusal numbers" and part 8).
 pub mod frames;
-pub mod reply;
+mod reply;
 pub mod run;

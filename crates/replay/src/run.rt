@@ -81,8 +81,10 @@ fn put_answer(out: &mut [u8], at: usize, a: Answer, origin: Name, name: Name, ec
     }
 }
 
-// The events of a tape from the place first on.
-fn run(
+// The events of a tape from the place first on, over the machine that the configuration makes. The answers lie one after the other at the
+// front of `out`. It stops at a framing fault, and with 13 at an event whose answer does not fit; the place is that event's first byte, or
+// the tape's length.
+pub fn run(
     tape: &[u8],
     out: &mut [u8],
     first: usize,
