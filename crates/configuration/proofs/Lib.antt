@@ -1,0 +1,2 @@
+-- Laws that several proofs, and the crates above, cite.
+pub mod Branches
