@@ -1,2 +1,3 @@
 pub mod Configuration
+pub mod Filling
 pub mod Shown

@@ -7,6 +7,7 @@ ghost use Rattle.parts.specs.Items.{items, past, counted};
 ghost use Rattle.parts.specs.Shown.{passedShown, itemsShown};
 ghost use Rattle.bodies.specs.Events.{faultOf};
 ghost use Rattle.configuration.specs.Configuration.{literalBy, originAt, altHostAt, versionOf, alt, preferenceOf, choices, front, multiplierAt, pace, modeOf, flagged, back, hostIn, setUp, restAt, setupAt};
+ghost use Rattle.configuration.specs.Filling.{altHost, altOf, hostName, noAlternatives, altsIn, namesWith, configuredIn};
 ghost use Rattle.configuration.specs.Shown.{hostShown, altShown, frontShown, multiplierShown, paceShown, backShown, setupShown};
 ghost use Rattle.configuration.specs.declared.HostSpan.the-variants.{Named};
 use bodies::Fault;
@@ -29,6 +30,14 @@ use parts::field::PortRead;
 use parts::field::VersionsRead;
 use parts::field::read_port;
 use parts::field::read_versions;
+use parts::room::name_of;
+use records::names::Name;
+use records::names::Names;
+use records::names::no_name;
+use records::names::no_names;
+use records::rules::Alt;
+use records::rules::AltHost;
+use records::rules::Alts;
 use records::rules::Host;
 use records::rules::Mode;
 use records::rules::Port;
@@ -37,6 +46,7 @@ use records::rules::Rules;
 use records::rules::Timing;
 use records::rules::Version;
 use records::rules::Versions;
+use records::rules::no_alts;
 
 // A host, with its name where it stands; an alternative service may have none.
 pub enum HostSpan {
@@ -115,6 +125,22 @@ pub struct Setup {
 pub enum SetupRead {
     Setup(Setup, usize),
     Refused(Refusal, usize),
+}
+
+// The names of the alternative services, in their order.
+pub struct AltNames {
+    pub list: [Name; 4],
+}
+
+pub struct Alternatives {
+    pub alts: Alts,
+    pub names: AltNames,
+}
+
+// What a configuration holds beside its rules.
+pub struct Configured {
+    pub alts: Alts,
+    pub names: Names,
 }
 
 fn named(r: SpanRead, at: usize) -> HostRead
@@ -505,4 +531,113 @@ pub fn configuration_fault(s: &[u8]) -> Fault
         },
         SetupRead::Setup(_, place) => Fault { number: 0, place },
     }
+}
+
+fn alt_host(h: HostSpan) -> AltHost
+    ensures { λ r. ⌜ r ≡ altHost h ⌝ }
+{
+    match h {
+        HostSpan::Absent => AltHost::Origin,
+        HostSpan::Named(_) => AltHost::Own(Host::Named),
+        HostSpan::V4(x) => AltHost::Own(Host::V4(x)),
+        HostSpan::V6(x, y) => AltHost::Own(Host::V6(x, y)),
+    }
+}
+
+fn alt_of(a: AltSpan) -> Alt
+    ensures { λ r. ⌜ r ≡ altOf a ⌝ }
+{
+    let h = a.host;
+    let port = a.port;
+    let version = a.version;
+    let host = alt_host(h);
+    Alt {
+        host,
+        port,
+        version,
+    }
+}
+
+// The name of a host; empty where it has none.
+fn host_name(s: &[u8], h: HostSpan) -> Name
+    ensures { λ r. ⌜ r ≡ hostName (now (s .entry)) h ⌝ }
+{
+    match h {
+        HostSpan::Absent => no_name(),
+        HostSpan::Named(b) => name_of(s, b),
+        HostSpan::V4(_) => no_name(),
+        HostSpan::V6(_, _) => no_name(),
+    }
+}
+
+fn no_alternatives() -> Alternatives
+    ensures { λ r. ⌜ r ≡ noAlternatives ⌝ }
+{
+    let n = no_name();
+    Alternatives {
+        alts: no_alts(),
+        names: AltNames { list: [n; 4] },
+    }
+}
+
+// The alternative services, copied from where they stand.
+fn fill_alts(s: &[u8], l: Items) -> Alternatives
+    ensures { λ r. ⌜ r ≡ altsIn (now (s .entry)) l ⌝ }
+{
+    let n = l.count;
+    let none = no_alternatives();
+    if 4 < n {
+        return none;
+    }
+    let mut alts = none.alts;
+    let mut names = none.names;
+    let mut p = l.first;
+    let mut i: usize = 0;
+    while i < n {
+        let r = read_alt(s, p);
+        match r {
+            AltRead::Refused(_, _) => {
+                return no_alternatives();
+            }
+            AltRead::Alt(a, next) => {
+                let host = a.host;
+                let alt = alt_of(a);
+                let name = host_name(s, host);
+                alts.list[i] = alt;
+                names.list[i] = name;
+                p = next;
+                i += 1;
+            }
+        }
+    }
+    alts.count = n;
+    Alternatives { alts, names }
+}
+
+fn names_with(origin: Name, own: AltNames) -> Names
+    ensures { λ r. ⌜ r ≡ namesWith origin own ⌝ }
+{
+    let a = own.list[0];
+    let b = own.list[1];
+    let c = own.list[2];
+    let d = own.list[3];
+    let mut out = no_names();
+    out.list[0] = origin;
+    out.list[1] = a;
+    out.list[2] = b;
+    out.list[3] = c;
+    out.list[4] = d;
+    out
+}
+
+// The alternative services and the names of a sound configuration.
+pub fn fill_configuration(s: &[u8], c: Setup) -> Configured
+    ensures { λ r. ⌜ r ≡ configuredIn (now (s .entry)) c ⌝ }
+{
+    let o = c.origin;
+    let origin = host_name(s, o);
+    let l = fill_alts(s, c.alts);
+    let alts = l.alts;
+    let names = names_with(origin, l.names);
+    Configured { alts, names }
 }
