@@ -1,0 +1,3 @@
+-- Laws that several proofs, and the crates above, cite.
+pub mod Branches
+pub mod Rooms

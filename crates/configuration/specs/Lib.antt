@@ -1,0 +1,3 @@
+pub mod Configuration
+pub mod Filling
+pub mod Shown
