@@ -1,4 +1,4 @@
--- A frame takes a byte at least, and its body lies in the tape, at its end.
+-- A frame takes a byte at least, and its body lies in the tape, at its end; the configuration's likewise.
 use Prim.Native.Nat.{ℕ, zero, suc, _+_, _-_, _*_, _%_, _≤_, _<_}
 use mathlib.Core.Path.{_≡_, refl, sym, ap, _∙_}
 use mathlib.Core.Bool.{Bool, true, false, cond}
@@ -87,12 +87,15 @@ most-got limit n r v next e =
 past-got : {A : Type 0} (at : ℕ) (v : A) (next : ℕ) (r : Got A) → got v next ≡ r → at < past at r → at < next
 past-got at v next r e h = rw (← e) at h
 
-body-lies : (s : List ℕ) (at p : ℕ) (b : Span) (next : ℕ) → at < p → got b next ≡ bodyAt s p → Lies s at b next
+pub body-lies : (s : List ℕ) (p : ℕ) (b : Span) (next : ℕ) → got b next ≡ bodyAt s p → Lies s p b next
 unfolding bodyAt
-body-lies s at p b next h e =
+body-lies s p b next e =
     let t = then-got (atMost longestBody outOfRange (readNumber s p)) (bytesAt s) b next e in
     let l : p < t .place = past-got p (t .value) (t .place) (readNumber s p) (most-got longestBody outOfRange (readNumber s p) (t .value) (t .place) (t .first)) (number-past s p) in
-    lies-by s at (t .value) (t .place) b next (omega arith) (t .rest)
+    lies-by s p (t .value) (t .place) b next l (t .rest)
+
+earlier : (s : List ℕ) (at p : ℕ) (b : Span) (next : ℕ) → at < p → Lies s p b next → Lies s at b next
+earlier s at p b next h l = record { before = omega (arith, l .before); start = l .start; inside = l .inside; bytes = l .bytes }
 
 moved : (s : List ℕ) (at t : ℕ) (f : Frame) (b : Span) (p next : ℕ) → got f next ≡ got (record { moment = t; body = b }) p → Lies s at b p → Lies s at (f .body) next
 moved s at t f b p next e l =
@@ -106,4 +109,4 @@ frame-lies s at f next e =
     let m = then-got (readNumber s at) (λ t p. andThen (bodyAt s p) (λ b q. got (record { moment = t; body = b }) q)) f next e in
     let b = then-got (bodyAt s (m .place)) (λ b q. got (record { moment = m .value; body = b }) q) f next (m .rest) in
     let l : at < m .place = past-got at (m .value) (m .place) (readNumber s at) (m .first) (number-past s at) in
-    moved s at (m .value) f (b .value) (b .place) next (b .rest) (body-lies s at (m .place) (b .value) (b .place) l (b .first))
+    moved s at (m .value) f (b .value) (b .place) next (b .rest) (earlier s at (m .place) (b .value) (b .place) l (body-lies s (m .place) (b .value) (b .place) (b .first)))

@@ -1,5 +1,6 @@
 -- Replay (document 01, "Refusal numbers" and part 8): the machine's two calls, event after event, and what is written for them.
 use Prim.Native.Nat.{ℕ, zero, suc, _+_}
+use mathlib.Core.Path.{_≡_}
 use mathlib.Core.Bool.{cond}
 use mathlib.Core.List.{List, [], _++_}
 use lib.Dec.{leb}
@@ -7,13 +8,19 @@ use lib.ListN.{length}
 use Rattle.numbers.specs.Fields.{spanBytes}
 use Rattle.numbers.specs.Got.{Got, got, refused}
 use Rattle.numbers.specs.Refusals.{noRoom}
+use Rattle.numbers.specs.declared.field.Span.{Span}
+use Rattle.state.specs.State.{made}
 use Rattle.state.specs.declared.Machine.{Machine}
 use Rattle.machine.specs.Steps.{outputStep, inputStep}
 use Rattle.parts.specs.Reading.{Reading, read, fault}
 use Rattle.bodies.specs.Told.{Told, call, fed, readBody}
 use Rattle.answers.specs.Answers.{Said, input, answerBytes}
 use Rattle.answers.specs.Outputs.{saidOf, takenNumber}
-use Rattle.replay.specs.Frames.{Frame, frameAt}
+use Rattle.configuration.specs.Configuration.{setupAt}
+use Rattle.configuration.specs.Filling.{configuredIn}
+use Rattle.configuration.specs.declared.Setup.{Setup}
+use Rattle.replay.specs.Frames.{Frame, bodyAt, frameAt}
+use Rattle.replay.specs.declared.run.Replayed.{Replayed}
 
 -- One event: the machine after it, what is said, and 1 for a call
 pub record Step : Type 0 where
@@ -66,3 +73,27 @@ run (suc left) tape at written room m =
 -- every event takes a byte at least
 unfoldable pub runFrom : (tape : List ℕ) → (first room : ℕ) → Machine → Run
 runFrom tape first room m = run (length tape) tape first 0 room m
+
+-- The whole tape: its configuration makes the machine; one that is refused makes none
+
+unfoldable pub machineOf : (body : List ℕ) → Setup → Machine
+machineOf body c = made (c .rules) (c .timing) (configuredIn body c .alts) (configuredIn body c .names)
+
+abbrev pub onSetup : Reading Setup → (Setup → Run) → Run
+onSetup (read c end) go = go c
+onSetup (fault n p) go = ended n 0
+
+-- the tape whose configuration body this is, and whose events begin at `next`
+unfoldable pub replayFrom : (tape body : List ℕ) → (next room : ℕ) → Run
+replayFrom tape body next room = onSetup (setupAt body) (λ c. runFrom tape next room (machineOf body c))
+
+abbrev pub onBody : Got Span → (Span → ℕ → Run) → Run
+onBody (got b next) go = go b next
+onBody (refused n) go = ended n 0
+
+unfoldable pub replayOf : (tape : List ℕ) → (room : ℕ) → Run
+replayOf tape room = onBody (bodyAt tape 0) (λ b next. replayFrom tape (spanBytes tape b) next room)
+
+-- what is given back for a run: its status, its place, how many bytes were written, and how many calls were answered
+abbrev pub Gives : Replayed → Run → Type 0
+Gives r x = (r .status ≡ x .status) × (r .place ≡ x .place) × (r .written ≡ length (x .bytes)) × (r .calls ≡ x .calls)

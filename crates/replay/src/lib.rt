@@ -1,4 +1,6 @@
-// Tapes: their frames, and their events replayed (document 01, "Refusal numbers" and part 8).
+// Tapes: frames, replay, tape check (document 01, "Refusal numbers" and part 8).
+pub mod check;
 pub mod frames;
 mod reply;
 pub mod run;
+pub mod tape;

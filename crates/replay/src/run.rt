@@ -8,7 +8,7 @@ ghost use Rattle.records.specs.Names.{nameBytes, echBytes};
 ghost use Rattle.answers.specs.Answers.{answerBytes};
 ghost use Rattle.state.specs.State.{made};
 ghost use Rattle.replay.specs.Saying.{answerName, answerEch, saidTo};
-ghost use Rattle.replay.specs.Replay.{runFrom};
+ghost use Rattle.replay.specs.Replay.{runFrom, Gives};
 use super::frames::FrameRead;
 use super::frames::frame_at;
 use super::reply::Answer;
@@ -93,7 +93,7 @@ pub fn run(
     alts: Alts,
     given: Names,
 ) -> Replayed
-    ensures numbers { λ r. ⌜ (r .status ≡ runFrom (now (tape .entry)) first (length (now (out .entry))) (made rules timing alts given) .status) × (r .place ≡ runFrom (now (tape .entry)) first (length (now (out .entry))) (made rules timing alts given) .place) × (r .written ≡ length (runFrom (now (tape .entry)) first (length (now (out .entry))) (made rules timing alts given) .bytes)) × (r .calls ≡ runFrom (now (tape .entry)) first (length (now (out .entry))) (made rules timing alts given) .calls) ⌝ }
+    ensures numbers { λ r. ⌜ Gives r (runFrom (now (tape .entry)) first (length (now (out .entry))) (made rules timing alts given)) ⌝ }
     ensures bytes { λ _. ⌜ now (out .exit) ≡ sets (now (out .entry)) 0 (runFrom (now (tape .entry)) first (length (now (out .entry))) (made rules timing alts given) .bytes) ⌝ }
 {
     let m = made(rules, timing, alts, given);
