@@ -1,7 +1,7 @@
 -- A configuration that is written is read back.
 --     host-back, alt-back, front-back, back-back     a host, an alternative service, what comes before these and after them
 --     given-back              the whole: rules, timing, alternative services and names are those that were given
-use mathlib.Core.Path.{_≡_, refl, sym, ap, subst, _∙_}
+use mathlib.Core.Path.{_≡_, refl, sym, ap, _∙_}
 use mathlib.Core.Bool.{Bool, true, false, cond}
 use mathlib.Core.List.{List, [], _∷_, _++_}
 use Prim.Native.Nat.{ℕ, _+_, _%_, _^_, _≤_, _<_}
@@ -10,20 +10,19 @@ use native.Mathlib.Nat.{mod-eq-of-lt}
 use lib.Dec.{eqb}
 use lib.ListN.{length, length-append}
 use Rattle.numbers.specs.Got.{got, refused}
-use Rattle.numbers.specs.Fields.{atMost, bytesAt, spanBytes, nameLength, named as nameHere, nameAt}
+use Rattle.numbers.specs.Fields.{atMost, spanBytes, named as nameHere, nameAt}
 use Rattle.numbers.specs.Names.{nameOk, longestName, longestOrigin, every, undotted, labels, labelOk, labelsOk}
 use Rattle.numbers.specs.Numbers.{readNumber, numberBytes}
 use Rattle.numbers.specs.Refusals.{outOfRange, tooMany, badName}
 use Rattle.numbers.specs.declared.field.Span.{Span}
 use Rattle.numbers.proofs.Steps as numbers
-use Rattle.parts.specs.Reading.{Reading, read, next, field}
-use Rattle.parts.specs.Addresses as address
+use Rattle.parts.specs.Reading.{read, next, field}
 use Rattle.parts.specs.Fields.{versionsOf, versionsAt, portOf, portAt}
 use Rattle.parts.specs.Items.{listed}
 use Rattle.parts.specs.Rooms.{kept, nameIn}
 use Rattle.parts.specs.declared.address.Items.{Items}
 use Rattle.parts.proofs.Steps.{went-on, on-field}
-use Rattle.written.specs.Written.{wordBytes, sixBytes, nameBytes, fourAddr, rowBytes}
+use Rattle.written.specs.Written.{wordBytes, nameBytes, fourAddr, rowBytes}
 use Rattle.written.proofs.Back.{There, there-left, there-right, number-back, most-back, limited-back, bytes-back, span-back, Back, there-all, Each, each-length, each-map, counted-back}
 use Rattle.written.proofs.AddressBack.{four-back, six-back}
 use Rattle.written.proofs.EntryBack.{kept-back}
