@@ -1,7 +1,7 @@
 -- What the machine's answers say: an output with the names and ECH bytes at its places, and what became of an input.
 use Prim.Native.Nat.{ℕ}
 use mathlib.Core.Bool.{cond}
-use mathlib.Core.List.{List, []}
+use mathlib.Core.List.{List}
 use mathlib.Core.Option.{Option, none, some}
 use lib.Dec.{ltb}
 use Rattle.numbers.specs.Refusals.{refusalNumber}

@@ -2,7 +2,7 @@
 --     is-four, is-six, is-none, by-name, by-literal     a host's kind
 --     no-multiplier, some-multiplier                    the multiplier, which isn't 0
 --     trails, ends                                      the end of the body
-use mathlib.Core.Path.{_≡_, refl, ap, _∙_}
+use mathlib.Core.Path.{_≡_, ap, _∙_}
 use mathlib.Core.Bool.{cond}
 use mathlib.Core.List.{List}
 use Prim.Native.Nat.{ℕ, _%_, _≤_, _<_}

@@ -1,13 +1,11 @@
 -- Alternative services and names in their rooms.
 --     alternatives-none, alternatives-all     those that can't be read, and those that are filled
 --     configured                              the table of names from the origin's and theirs
-use mathlib.Core.Path.{_≡_, refl, sym, ap, _∙_}
-use mathlib.Core.Bool.{cond}
+use mathlib.Core.Path.{_≡_, refl, ap, _∙_}
 use mathlib.Core.List.{List, [], _∷_, _++_, map, append-assoc}
 use mathlib.Core.Logic.{⊎-elim}
 use Prim.Native.Nat.{ℕ, _+_, _-_, _≤_, _<_}
 use native.Mathlib.Omega.{arith}
-use lib.Dec.{leb}
 use lib.ListN.{length, getD, replicate, length-append, length-map, length-replicate, replicate-append-replicate}
 use borrow.Author.Tests.{le-leb, lt-leb}
 use Rattle.numbers.proofs.Cases.{less-or-not}

@@ -1,3 +1,4 @@
 pub mod Configuration
 pub mod Filling
+pub mod Given
 pub mod Shown

@@ -1,9 +1,8 @@
--- Answers that are written are read back.
---     number-there, raw-there      the first field that stands at a place, and those after it
---     query-back, target-back, ech-back, attempt-back     each part
---     answer-back                  the whole: what is read says what was written, and ends after its bytes
---     one-answer                   answers with the same bytes are the same
---     put-back                     what the writer puts into a buffer is read back from it
+-- Parts of an answer that are written are read back.
+--     kind-back and the like          each case from its number
+--     number-*, raw-*                 the first field that stands at a place: that it is there, what follows it, where it ends, how it reads
+--     Back                            what is read is right, and ends after the fields
+--     query-back, endpoint-back       a query after its id; an endpoint
 use mathlib.Core.Path.{_≡_, refl, sym, ap, subst, _∙_}
 use mathlib.Core.Bool.{Bool, true, false}
 use mathlib.Core.List.{List, [], _∷_, _++_, append-assoc}
@@ -28,16 +27,13 @@ use Rattle.machine.specs.declared.wish.Reason.{Reason}
 use Rattle.machine.specs.declared.wish.Reason.the-variants.{Dns, Connection}
 use Rattle.machine.specs.declared.grant.Table.{Table}
 use Rattle.machine.specs.declared.grant.Table.the-variants as table
-use Rattle.parts.specs.Addresses.{word, long}
 use Rattle.written.specs.Written.{wordBytes, longBytes}
-use Rattle.written.proofs.Back.{There, there-left, there-right, most-back, number-back, bytes-back, span-back}
+use Rattle.written.proofs.Back.{There, there-left, there-right, most-back, bytes-back, span-back}
 use Rattle.written.proofs.AddressBack.{word-back, long-back}
 use Rattle.answers.specs.Answers.{Field, number, raw, bit, reasonNumber, tableNumber, highFirst, targetFields, echFields, joined}
-use Rattle.reader.specs.Reading.{kindOf, rankOf, reasonOf, tableOf, sizedAt, queryAt, fourAt, sixAt, hostAt, targetBy, targetAt, sealedBy, echAt, portAt, endpointAt, attemptAt}
+use Rattle.reader.specs.Reading.{kindOf, rankOf, reasonOf, tableOf, sizedAt, queryAt, fourAt, sixAt, hostAt, targetBy, targetAt, sealedBy, echAt, portAt, endpointAt}
 use Rattle.reader.specs.Saying.{targetIn, echIn, endpointIn, FitsTarget, FitsEch}
-use Rattle.reader.specs.declared.TargetSpan.{TargetSpan}
 use Rattle.reader.specs.declared.TargetSpan.the-variants.{V4, V6, Named}
-use Rattle.reader.specs.declared.EchSpan.{EchSpan}
 use Rattle.reader.specs.declared.EchSpan.the-variants.{Without, Sealed}
 use Rattle.reader.specs.declared.EndpointSpan.{EndpointSpan}
 use Rattle.reader.specs.declared.Answer.the-variants.{Query}

@@ -2,7 +2,7 @@
 --     by-four, by-six, by-host      a target's case
 --     by-none, by-sealed            ECH bytes, or none
 --     kind-waiting, -succeeded, -more, rest-query and the like     an answer's kind
-use mathlib.Core.Path.{_≡_, refl}
+use mathlib.Core.Path.{_≡_}
 use mathlib.Core.List.{List}
 use Prim.Native.Nat.{ℕ, _-_}
 use borrow.Author.Tests.{eq-eqb, ne-eqb}

@@ -6,8 +6,6 @@ use Rattle.records.specs.Names.{echBytes}
 use borrow.Author.Needs.{needs}
 use Rattle.answers.proofs.writer.ech_len.Statement.{statement}
 use Rattle.answers.proofs.writer.ech_len.Tie as tie
-use Rattle.answers.proofs.writer.ech_len.Reads as reads
-use Rattle.answers.proofs.writer.ech_len.Lts as lts
 
 returns : tie.Need-returns
 unfolding echBytes

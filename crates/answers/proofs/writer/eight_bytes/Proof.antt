@@ -4,8 +4,6 @@ use Rattle.answers.specs.Answers.{highFirst}
 use borrow.Author.Needs.{needs}
 use Rattle.answers.proofs.writer.eight_bytes.Statement.{statement}
 use Rattle.answers.proofs.writer.eight_bytes.Tie as tie
-use Rattle.answers.proofs.writer.eight_bytes.Reads as reads
-use Rattle.answers.proofs.writer.eight_bytes.Lts as lts
 
 cast-t10 : tie.Need-cast-t10
 cast-t10 c = search needs

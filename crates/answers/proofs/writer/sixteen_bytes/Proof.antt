@@ -4,9 +4,6 @@ use Rattle.answers.specs.Answers.{highFirst}
 use borrow.Author.Needs.{needs}
 use Rattle.answers.proofs.writer.sixteen_bytes.Statement.{statement}
 use Rattle.answers.proofs.writer.sixteen_bytes.Tie as tie
-use Rattle.answers.proofs.writer.sixteen_bytes.Reads as reads
-use Rattle.answers.proofs.writer.sixteen_bytes.Lts as lts
-use Rattle.answers.proofs.writer.eight_bytes.Reads as eight-bytes-reads
 
 eight-bytes-requires : tie.Need-eight-bytes-requires
 eight-bytes-requires c κs = search needs
