@@ -62,7 +62,7 @@ pub struct Reply {
     pub change: Change,
 }
 
-// Which parts a change touches: none; ids and query records; ids and attempts; query records and addresses; any that an input can.
+// Which parts a change touches: none; ids and query records; ids and attempts; query records and addresses; all but ids and addresses.
 pub enum Touched {
     Nothing,
     Asked,
