@@ -22,10 +22,10 @@ use Rattle.parts.specs.Items.{listed}
 use Rattle.parts.specs.Rooms.{kept, nameIn}
 use Rattle.parts.specs.declared.address.Items.{Items}
 use Rattle.parts.proofs.Steps.{went-on, on-field}
-use Rattle.written.specs.Written.{wordBytes, nameBytes, fourAddr, rowBytes}
-use Rattle.written.proofs.Back.{There, there-left, there-right, number-back, most-back, limited-back, bytes-back, span-back, Back, there-all, Each, each-length, each-map, counted-back}
-use Rattle.written.proofs.AddressBack.{four-back, six-back}
-use Rattle.written.proofs.EntryBack.{kept-back}
+use Rattle.parts.specs.Written.{wordBytes, namedBytes, fourAddr, rowBytes}
+use Rattle.parts.proofs.Back.{There, there-left, there-right, number-back, most-back, limited-back, bytes-back, span-back, Back, there-all, Each, each-length, each-map, counted-back}
+use Rattle.parts.proofs.AddressBack.{four-back, six-back}
+use Rattle.parts.proofs.FieldBack.{kept-back}
 use Rattle.configuration.specs.Configuration.{hostBy, originAt, altHostAt, versionOf, alt, preferenceOf, choices, front, pace, modeOf, flagged, back, hostIn, setUp, setupAt}
 use Rattle.configuration.specs.Filling.{altHost, altOf, hostName, altName, configuredBy, configuredIn}
 use Rattle.configuration.specs.Given.{GivenHost, named, four, six, absent, GivenAlt, Given, hostNumber, hostRest, hostBytes, altBytes, frontBytes, backBytes, givenBytes, FitsHost, FitsAlt, Fits, givenHost, givenAltHost, givenName, givenAlt, altGivenName, givenRules, givenTiming, givenConfigured}
@@ -53,9 +53,9 @@ not-empty [] e z = let c = sym e ∙ empty-bad in let y : _≡_ {A = ℕ} 0 1 = 
 not-empty (b ∷ bs) e z = omega arith
 
 -- a name, within any limit up to a name's room
-module _ (s : List ℕ) (limit p : ℕ) (low : limit ≤ longestName) (bs : List ℕ) (ok : nameOk bs ≡ true) (short : length bs ≤ limit) (t : There s p (nameBytes bs)) where
-  pub name-back : Back (field p (nameAt s limit p)) (p + length (nameBytes bs)) (λ b. kept longestName s b ≡ bs)
-  unfolding nameAt nameBytes nameHere
+module _ (s : List ℕ) (limit p : ℕ) (low : limit ≤ longestName) (bs : List ℕ) (ok : nameOk bs ≡ true) (short : length bs ≤ limit) (t : There s p (namedBytes bs)) where
+  pub name-back : Back (field p (nameAt s limit p)) (p + length (namedBytes bs)) (λ b. kept longestName s b ≡ bs)
+  unfolding nameAt namedBytes nameHere
   name-back =
       let n = numberBytes (length bs) in
       let q = p + length n in

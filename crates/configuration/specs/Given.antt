@@ -21,7 +21,7 @@ use Rattle.records.specs.declared.rules.Rules.{Rules}
 use Rattle.records.specs.declared.rules.Timing.{Timing}
 use Rattle.parts.specs.Fields.{versionsOf, portOf}
 use Rattle.parts.specs.Rooms.{nameIn}
-use Rattle.written.specs.Written.{wordBytes, sixBytes, nameBytes, rowBytes, All}
+use Rattle.parts.specs.Written.{wordBytes, sixBytes, namedBytes, rowBytes, All}
 use Rattle.configuration.specs.Configuration.{versionOf, preferenceOf, modeOf}
 use Rattle.configuration.specs.declared.Configured.{Configured}
 
@@ -56,7 +56,7 @@ hostNumber (six h l) = 2
 hostNumber absent = 3
 
 abbrev pub hostRest : GivenHost → List ℕ
-hostRest (named bs) = nameBytes bs
+hostRest (named bs) = namedBytes bs
 hostRest (four x) = wordBytes x
 hostRest (six h l) = sixBytes (record { hi = h; lo = l })
 hostRest absent = []

@@ -22,7 +22,7 @@ use Rattle.machine.specs.declared.wish.Reason.{Reason}
 use Rattle.machine.specs.declared.wish.Reason.the-variants.{Dns, Connection}
 use Rattle.machine.specs.declared.grant.Table.{Table}
 use Rattle.machine.specs.declared.grant.Table.the-variants as table
-use Rattle.written.proofs.Back.{There, there-all}
+use Rattle.parts.proofs.Back.{There, there-all}
 use Rattle.answers.specs.Answers.{Said, waiting, query, timer, attempt, cancel, succeeded, failed, full, input, Field, number, raw, bit, reasonNumber, tableNumber, fields, joined, answerBytes}
 use Rattle.reader.specs.Reading.{reasonOf, tableOf, attemptAt, mostOf, restAt, kindAt, answerAt}
 use Rattle.reader.specs.Saying.{saidIn, Fits}

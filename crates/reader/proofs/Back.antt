@@ -27,9 +27,9 @@ use Rattle.machine.specs.declared.wish.Reason.{Reason}
 use Rattle.machine.specs.declared.wish.Reason.the-variants.{Dns, Connection}
 use Rattle.machine.specs.declared.grant.Table.{Table}
 use Rattle.machine.specs.declared.grant.Table.the-variants as table
-use Rattle.written.specs.Written.{wordBytes, longBytes}
-use Rattle.written.proofs.Back.{There, there-left, there-right, most-back, bytes-back, span-back}
-use Rattle.written.proofs.AddressBack.{word-back, long-back}
+use Rattle.parts.specs.Written.{wordBytes, longBytes}
+use Rattle.parts.proofs.Back.{There, there-left, there-right, most-back, bytes-back, span-back}
+use Rattle.parts.proofs.AddressBack.{word-back, long-back}
 use Rattle.answers.specs.Answers.{Field, number, raw, bit, reasonNumber, tableNumber, highFirst, targetFields, echFields, joined}
 use Rattle.reader.specs.Reading.{kindOf, rankOf, reasonOf, tableOf, sizedAt, queryAt, fourAt, sixAt, hostAt, targetBy, targetAt, sealedBy, echAt, portAt, endpointAt}
 use Rattle.reader.specs.Saying.{targetIn, echIn, endpointIn, FitsTarget, FitsEch}
