@@ -5,7 +5,7 @@ KIT := rattle-kit-5b logic 064da1ca440f63e7
 
 show: kit
 	@rt check known >target/show.log 2>&1 || { cat target/show.log; exit 1; }
-	@target/bin/known
+	@tests/program known
 
 test: kit
 	.ci/run

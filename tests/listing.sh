@@ -2,6 +2,7 @@
 # The proved listing against the model's, on states of random histories and on others. Run after `rt ci`, which removes target/.
 set -eu
 cd "$(dirname "$0")/.."
+. tests/x86-64
 tests/archive
 cd differential
 cargo build --release --offline --quiet -p listing

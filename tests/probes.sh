@@ -3,6 +3,7 @@
 # instead; a number is another seed.
 set -eu
 cd "$(dirname "$0")/.."
+. tests/x86-64
 mkdir -p target/host
 tests/archive
 for program in leaves records dealing; do

@@ -1,4 +1,4 @@
-//! Links libprobes.a if it is there: `rt staticlib probes` writes it.
+//! Links libprobes.a if it is there: `rt staticlib probes` writes it. It is for x86-64 alone.
 
 use std::env;
 use std::path::PathBuf;
@@ -14,7 +14,8 @@ fn main() {
     };
     let archive = folder.join("libprobes.a");
     println!("cargo:rerun-if-changed={}", archive.display());
-    if archive.is_file() {
+    let fits = env::var("CARGO_CFG_TARGET_ARCH").as_deref() == Ok("x86_64");
+    if fits && archive.is_file() {
         println!("cargo:rustc-link-search=native={}", folder.display());
         println!("cargo:rustc-link-lib=static=probes");
         println!("cargo:rustc-cfg=archive");
