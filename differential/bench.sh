@@ -4,7 +4,7 @@ set -eu
 cd "$(dirname "$0")"
 
 ./install.sh
-../tests/archive
+../tests/archive probes
 (cd oracle && cargo build --profile speed --offline --quiet -p bench)
 
 pin=""

@@ -3,7 +3,7 @@
 set -eu
 cd "$(dirname "$0")/.."
 . tests/x86-64
-tests/archive
+tests/archive probes
 cd differential
 cargo build --release --offline --quiet -p listing
 ../target/differential/release/listing 20000 20000 1

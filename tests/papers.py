@@ -8,8 +8,8 @@ What a paper may put between backticks, and what is then asked:
   `word`                     a name of the code, or one that docs/RULES.md lists under "Names from elsewhere"
   bytes in hexadecimal, ../paths, and whatever has other signs in it: nothing
 And of docs/RULES.md: rules are numbered without a gap, each has its line of places, and every public function and every definition that
-a public contract cites is named. Public is what another crate can call: `pub`, in a public module, not of a test crate. A rule that is cited
-anywhere exists."""
+a public contract cites is named. Public is what another crate can call: `pub`, in a public module, not of a crate that is for the tests or
+the programs alone. A rule that is cited anywhere exists."""
 
 import fnmatch
 import glob
@@ -19,6 +19,7 @@ import re
 import sys
 
 RULES = 'docs/RULES.md'
+MAP = 'docs/MAP.md'
 # Fewer of a sort than this, and the reading is at fault.
 LEAST = {'definitions': 120, 'laws': 80, 'functions': 45, 'files': 30, 'tapes': 80, 'words': 40, 'rules': 80, 'citations': 80,
          'public functions': 45, 'definitions of public contracts': 50}
@@ -210,20 +211,21 @@ papers = files('', '.md')
 
 
 def test_crates():
-    """README's table of crates has all of them; a row that says "for the tests alone" has the test crates."""
+    """The map's table of crates has all of them; a row that says "for the tests alone" or "for the programs alone" has those whose functions
+    are no promises."""
     named, tests = set(), set()
-    for n, line in enumerate(read('README.md').splitlines(), 1):
+    for n, line in enumerate(read(MAP).splitlines(), 1):
         cells = [c.strip() for c in line.strip('|').split('|')] if line.startswith('|') else []
         here = re.findall(r'`(\w+)`', cells[0]) if len(cells) == 3 else []
         for crate in here:
             named.add(crate)
             if crate not in crates:
-                fault(f'README.md:{n}', f'`{crate}` is in the table of crates, but not in crates.txt')
-        if here and 'for the tests alone' in cells[1]:
+                fault(f'{MAP}:{n}', f'`{crate}` is in the table of crates, but not in crates.txt')
+        if here and re.search('for the (tests|programs) alone', cells[1]):
             tests.update(here)
     for crate in crates:
         if crate not in named:
-            fault('README.md', f'the table of crates has no `{crate}`, which crates.txt lists')
+            fault(MAP, f'the table of crates has no `{crate}`, which crates.txt lists')
     return tests
 
 
@@ -367,7 +369,7 @@ def check_places(where, text, edits):
                     if kinds and ('specs' if label == 'definition' else 'proofs') not in kinds:
                         fault(where, f'`{crate}/{file} {name}` stands in {kinds[0]}, so it is no {label.rstrip("s")}')
             elif label == 'promise' and token in fns and token not in publics:
-                fault(where, f'`{token}` is not public, stands in a private module, or is of a test crate')
+                fault(where, f'`{token}` is not public, stands in a private module, or is for the tests or programs alone')
             elif label == 'test' and sort != 'file':
                 fault(where, f'`{token}` is no file')
             elif label == 'model' and sort not in ('tape', 'file'):
@@ -487,7 +489,7 @@ for sort, least in LEAST.items():
     if counts[sort] < least:
         fault('tests/papers.py', f'only {counts[sort]} {sort} were found, at least {least} should be')
 if not tests:
-    fault('README.md', 'no row of the table of crates says "for the tests alone"')
+    fault(MAP, 'no row of the table of crates says "for the tests alone"')
 for word in sorted(other_words - used_words):
     fault(RULES, f'`{word}` is listed under "Names from elsewhere", and no paper uses it')
 for text in dict.fromkeys(faults):

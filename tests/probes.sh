@@ -5,7 +5,7 @@ set -eu
 cd "$(dirname "$0")/.."
 . tests/x86-64
 mkdir -p target/host
-tests/archive
+tests/archive probes
 for program in leaves records dealing; do
   rustc --edition 2021 -O -D warnings "host/$program.rs" -L target/staticlib -l static=probes -o "target/host/$program"
   "target/host/$program" "$@"

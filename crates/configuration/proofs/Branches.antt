@@ -1,27 +1,22 @@
 -- What follows a field that decides, by what it is.
 --     is-four, is-six, is-none, by-name, by-literal     a host's kind
 --     no-multiplier, some-multiplier                    the multiplier, which isn't 0
---     trails, ends                                      the end of the body
 use mathlib.Core.Path.{_≡_, ap, _∙_}
 use mathlib.Core.Bool.{cond}
 use mathlib.Core.List.{List}
-use Prim.Native.Nat.{ℕ, _%_, _≤_, _<_}
-use lib.Dec.{eqb, ltb}
-use lib.ListN.{length}
-use borrow.Author.Tests.{eq-eqb, ne-eqb, lt-ltb, le-ltb}
+use Prim.Native.Nat.{ℕ, _%_}
+use lib.Dec.{eqb}
+use borrow.Author.Tests.{eq-eqb, ne-eqb}
 use Rattle.numbers.specs.Got.{Got, got}
 use Rattle.numbers.specs.Fields.{atMost, nameAt}
 use Rattle.numbers.specs.Numbers.{readNumber}
-use Rattle.numbers.specs.Refusals.{outOfRange, trailing}
+use Rattle.numbers.specs.Refusals.{outOfRange}
 use Rattle.numbers.specs.declared.field.Span.{Span}
 use Rattle.parts.specs.Reading.{read, fault, next, field}
 use Rattle.parts.specs.Addresses.{four, six}
-use Rattle.parts.specs.declared.address.Items.{Items}
 use Rattle.parts.proofs.Steps.{went-on, on-field}
-use Rattle.configuration.specs.Configuration.{literalBy, hostBy, multiplierAt, back, setUp, restAt}
+use Rattle.configuration.specs.Configuration.{literalBy, hostBy, multiplierAt}
 use Rattle.configuration.specs.declared.HostSpan.the-variants.{Absent, Named, V4, V6}
-use Rattle.configuration.specs.declared.Front.{Front}
-use Rattle.configuration.specs.declared.Back.{Back}
 
 module _ (s : List ℕ) (kind p : ℕ) where
   pub is-four : kind ≡ 1 → next (four s p) (λ a end. read (V4 (a .lo % 4294967296)) end) ≡ literalBy s kind p
@@ -53,12 +48,3 @@ module _ (s : List ℕ) (p v q : ℕ) (e : got v q ≡ atMost 4294967295 outOfRa
   pub some-multiplier : (v ≡ 0 → ⊥) → read v q ≡ multiplierAt s p
   unfolding multiplierAt
   some-multiplier h = simp (ne-eqb v 0 h) at (went-on (λ v end. cond (eqb v 0) (fault outOfRange p) (read v end)) v q (on-field p e))
-
-module _ (s : List ℕ) (f : Front) (l : Items) (p : ℕ) {b : Back} {end : ℕ} (e : read b end ≡ back s p) where
-  pub trails : end < length s → fault trailing end ≡ restAt s f l p
-  unfolding restAt
-  trails h = simp (lt-ltb end (length s) h) at (went-on (λ b end. cond (ltb end (length s)) (fault trailing end) (read (setUp f l b) end)) b end e)
-
-  pub ends : length s ≤ end → read (setUp f l b) end ≡ restAt s f l p
-  unfolding restAt
-  ends h = simp (le-ltb end (length s) h) at (went-on (λ b end. cond (ltb end (length s)) (fault trailing end) (read (setUp f l b) end)) b end e)

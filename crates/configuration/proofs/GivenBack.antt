@@ -1,7 +1,9 @@
 -- A configuration that is written is read back.
 --     host-back, alt-back, front-back, back-back     a host, an alternative service, what comes before these and after them
---     given-back              the whole: rules, timing, alternative services and names are those that were given
-use mathlib.Core.Path.{_≡_, refl, sym, ap, _∙_}
+--     fields-back             the fields that every edition has: rules, timing, alternative services and names are those that were given
+--     edition-back            a body of any edition
+--     given-back              document 01's
+use mathlib.Core.Path.{_≡_, refl, sym, ap, subst, _∙_}
 use mathlib.Core.Bool.{Bool, true, false, cond}
 use mathlib.Core.List.{List, [], _∷_, _++_}
 use Prim.Native.Nat.{ℕ, _+_, _%_, _^_, _≤_, _<_}
@@ -16,7 +18,7 @@ use Rattle.numbers.specs.Numbers.{readNumber, numberBytes}
 use Rattle.numbers.specs.Refusals.{outOfRange, tooMany, badName}
 use Rattle.numbers.specs.declared.field.Span.{Span}
 use Rattle.numbers.proofs.Steps as numbers
-use Rattle.parts.specs.Reading.{read, next, field}
+use Rattle.parts.specs.Reading.{Reading, read, next, field}
 use Rattle.parts.specs.Fields.{versionsOf, versionsAt, portOf, portAt}
 use Rattle.parts.specs.Items.{listed}
 use Rattle.parts.specs.Rooms.{kept, nameIn}
@@ -26,7 +28,7 @@ use Rattle.parts.specs.Written.{wordBytes, namedBytes, fourAddr, rowBytes}
 use Rattle.parts.proofs.Back.{There, there-left, there-right, number-back, most-back, limited-back, bytes-back, span-back, Back, there-all, Each, each-length, each-map, counted-back}
 use Rattle.parts.proofs.AddressBack.{four-back, six-back}
 use Rattle.parts.proofs.FieldBack.{kept-back}
-use Rattle.configuration.specs.Configuration.{hostBy, originAt, altHostAt, versionOf, alt, preferenceOf, choices, front, pace, modeOf, flagged, back, hostIn, setUp, setupAt}
+use Rattle.configuration.specs.Configuration.{hostBy, originAt, altHostAt, versionOf, alt, preferenceOf, choices, front, pace, modeOf, flagged, back, hostIn, setUp, restAt, fieldsAt, editionAt, noneAdded, setupAt}
 use Rattle.configuration.specs.Filling.{altHost, altOf, hostName, altName, configuredBy, configuredIn}
 use Rattle.configuration.specs.Given.{GivenHost, named, four, six, absent, GivenAlt, Given, hostNumber, hostRest, hostBytes, altBytes, frontBytes, backBytes, givenBytes, FitsHost, FitsAlt, Fits, givenHost, givenAltHost, givenName, givenAlt, altGivenName, givenRules, givenTiming, givenConfigured}
 use Rattle.configuration.specs.declared.HostSpan.{HostSpan}
@@ -35,7 +37,8 @@ use Rattle.configuration.specs.declared.AltSpan.{AltSpan}
 use Rattle.configuration.specs.declared.Front.{Front}
 use Rattle.configuration.specs.declared.Back as cback
 use Rattle.configuration.specs.declared.Setup.{Setup}
-use Rattle.configuration.proofs.Branches.{is-four, is-six, is-none, by-name, by-literal, some-multiplier, ends}
+use Rattle.configuration.proofs.Branches.{is-four, is-six, is-none, by-name, by-literal, some-multiplier}
+use Rattle.configuration.proofs.Editions.{ends}
 
 -- what is read of a host
 abbrev pub HostRight : List ℕ → GivenHost → HostSpan → Type 0
@@ -234,50 +237,67 @@ name-same : (s : List ℕ) (v : AltSpan) (a : GivenAlt) → AltRight s v a → a
 unfolding altName
 name-same s v a r = host-name s (a .host) (v .host) (r .host)
 
--- what a configuration that is written is read as
-pub record Held (c : Given) (s : List ℕ) : Type 0 where
-  pub setup : Setup
-  pub reads : read setup (length s) ≡ setupAt s
-  pub rules : setup .rules ≡ givenRules c
-  pub timing : setup .timing ≡ givenTiming c
-  pub rooms : configuredIn s setup ≡ givenConfigured c
+-- what is read of the fields that every edition has
+pub record SetupRight (s : List ℕ) (c : Given) (x : Setup) : Type 0 where
+  pub rules : x .rules ≡ givenRules c
+  pub timing : x .timing ≡ givenTiming c
+  pub rooms : configuredIn s x ≡ givenConfigured c
 
-held : (s : List ℕ) (c : Given) (f : Front) (l : Items) → FrontRight s c f → Each (AltRight s) (listed 4 (alt s) l) (c .alts)
-    → (setUp f l (givenBack c) .rules ≡ givenRules c) × (setUp f l (givenBack c) .timing ≡ givenTiming c) × (configuredIn s (setUp f l (givenBack c)) ≡ givenConfigured c)
+set-up-right : (s : List ℕ) (c : Given) (f : Front) (l : Items) → FrontRight s c f → Each (AltRight s) (listed 4 (alt s) l) (c .alts) → SetupRight s c (setUp f l (givenBack c))
 unfolding setUp givenBack givenRules configuredIn configuredBy givenConfigured
-held s c f l r e =
-    let t = listed 4 (alt s) l in (
-      rw (host-in s (c .host) (f .host) (r .host), r .port, r .versions, r .preference) refl,
-      refl,
-      rw (
+set-up-right s c f l r e =
+    let t = listed 4 (alt s) l in
+    record {
+      rules = rw (host-in s (c .host) (f .host) (r .host), r .port, r .versions, r .preference) refl;
+      timing = refl;
+      rooms = rw (
         host-name s (c .host) (f .host) (r .host),
         each-length (AltRight s) t (c .alts) e,
         each-map (AltRight s) altOf givenAlt (alt-same s) t (c .alts) e,
         each-map (AltRight s) (altName s) altGivenName (name-same s) t (c .alts) e,
-      ) refl,
-    )
+      ) refl;
+    }
 
-pub given-back : (c : Given) → Fits c → Held c (givenBytes c)
-unfolding setupAt givenBytes
-given-back c ok =
-    let s = givenBytes c in
+-- whatever follows them
+pub fields-back : (s : List ℕ) (c : Given) → Fits c → There s 0 (givenBytes c) → Back (fieldsAt s) (length (givenBytes c)) (SetupRight s c)
+unfolding fieldsAt restAt givenBytes
+fields-back s c ok t =
     let a = frontBytes c in
     let b = rowBytes altBytes (c .alts) in
     let d = backBytes c in
-    let t : There s 0 (a ++ (b ++ d)) = there-all s in
     let f = front-back s c ok (there-left s 0 a (b ++ d) t) in
     let p1 = 0 + length a in
     let t1 = there-right s 0 a (b ++ d) t in
     let l = counted-back (AltRight s) (alt s) s altBytes FitsAlt (alt-back s) 4 (c .alts) p1 (ok .few) (omega arith) (ok .alts) (there-left s p1 b d t1) in
     let p2 = p1 + length b in
     let t2 = there-right s p1 b d t1 in
-    let e : p2 + length d ≡ length s = omega (arith, length-append a (b ++ d), length-append b d) in
-    let h = held s c (f .value) (l .value) (f .right) (l .right .1) in
+    let e : p2 + length d ≡ length (a ++ (b ++ d)) = omega (arith, length-append a (b ++ d), length-append b d) in
     let x = setUp (f .value) (l .value) (givenBack c) in
     record {
-      setup = x;
-      reads = ap (read x) (sym e) ∙ ends s (f .value) (l .value) p2 (back-back s p2 c ok t2) (omega arith) ∙ went-on _ _ _ (l .reads) ∙ went-on _ _ _ (f .reads);
-      rules = h .0;
-      timing = h .1;
-      rooms = h .2;
+      value = x;
+      reads = ap (read x) (sym e) ∙ went-on (λ b end. read (setUp (f .value) (l .value) b) end) _ _ (back-back s p2 c ok t2) ∙ went-on _ _ _ (l .reads) ∙ went-on _ _ _ (f .reads);
+      right = set-up-right s c (f .value) (l .value) (f .right) (l .right .1);
     }
+
+-- Any edition: if the fields that it adds are read back where they stand, the body is, and what it has beside them is as given
+pub edition-back : {A : Type 0} (added : List ℕ → Setup → ℕ → Reading A) (Right : Setup → A → Type 0) (s : List ℕ) (c : Given) → Fits c → There s 0 (givenBytes c)
+    → ((x : Setup) → SetupRight s c x → Back (added s x (length (givenBytes c))) (length s) (Right x)) → Back (editionAt added s) (length s) (λ v. (x : Setup) × SetupRight s c x × Right x v)
+edition-back added Right s c ok t own =
+    let b = fields-back s c ok t in
+    let o = own (b .value) (b .right) in
+    record { value = o .value; reads = ends added s (b .reads) (o .reads) (omega arith); right = (b .value, b .right, o .right) }
+
+-- what a configuration that is written is read as
+pub record Held (c : Given) (s : List ℕ) : Type 0 where
+  pub setup : Setup
+  pub reads : read setup (length s) ≡ setupAt s
+  pub right : SetupRight s c setup
+
+-- document 01's edition
+pub given-back : (c : Given) → Fits c → Held c (givenBytes c)
+unfolding setupAt
+given-back c ok =
+    let s = givenBytes c in
+    let b = edition-back noneAdded (λ x v. x ≡ v) s c ok (there-all s) (λ x r. record { value = x; reads = refl; right = refl }) in
+    let r = b .right in
+    record { setup = b .value; reads = b .reads; right = subst (SetupRight s c) (r .2) (r .1) }

@@ -3,22 +3,18 @@
 --     configured                              the table of names from the origin's and theirs
 use mathlib.Core.Path.{_≡_, refl, ap, _∙_}
 use mathlib.Core.List.{List, [], _∷_, _++_, map, append-assoc}
-use mathlib.Core.Logic.{⊎-elim}
-use Prim.Native.Nat.{ℕ, _+_, _-_, _≤_, _<_}
+use Prim.Native.Nat.{ℕ, _+_, _-_, _≤_}
 use native.Mathlib.Omega.{arith}
 use lib.ListN.{length, getD, replicate, length-append, length-map, length-replicate, replicate-append-replicate}
-use borrow.Author.Tests.{le-leb, lt-leb}
-use Rattle.numbers.proofs.Cases.{less-or-not}
 use Rattle.records.specs.Lists.{padded}
 use Rattle.records.specs.Names.{noName, blankName}
 use Rattle.records.specs.Rules.{noAlt, noAlts}
 use Rattle.records.specs.declared.names.Name.{Name}
 use Rattle.records.specs.declared.names.Names.{Names}
 use Rattle.records.specs.declared.rules.Alt.{Alt}
-use Rattle.parts.specs.Reading.{Reading, read, fault}
-use Rattle.parts.specs.Items.{items, found, listed}
+use Rattle.parts.specs.Items.{listed}
 use Rattle.parts.specs.declared.address.Items.{Items}
-use Rattle.parts.proofs.Items.{items-length}
+use Rattle.parts.proofs.Items.{listed-few}
 use Rattle.configuration.specs.Configuration.{alt}
 use Rattle.configuration.specs.Filling.{altOf, altName, hostName, altsBy, noAlternatives, altsIn, namesWith, configuredBy, configuredIn}
 use Rattle.configuration.specs.declared.Alternatives.{Alternatives}
@@ -35,18 +31,6 @@ module _ (s : List ℕ) (l : Items) where
       → record { alts = record { count = n; list = alts }; names = record { list = names } } ≡ altsIn s l
   unfolding altsIn altsBy
   alternatives-all a b = λ j. record { alts = record { count = a .0 j; list = a .1 j }; names = record { list = b j } }
-
--- as many items are listed as there is room for, at most
-found-few : {A : Type 0} (f : ℕ → Reading A) (n p most : ℕ) → n ≤ most → (r : Reading (List A)) → items f n p ≡ r → length (found r) ≤ most
-found-few f n p most h (read l end) e = let x = items-length f n p l end e in omega arith
-found-few f n p most h (fault m q) e = omega arith
-
-listed-few : {A : Type 0} (most : ℕ) (f : ℕ → Reading A) (l : Items) → length (listed most f l) ≤ most
-unfolding listed
-listed-few most f l =
-    ⊎-elim (λ (h : most < l .count). rw (lt-leb (l .count) most h) (omega arith))
-    (λ (h : l .count ≤ most). rw (le-leb (l .count) most h) (found-few f (l .count) (l .first) most h (items f (l .count) (l .first)) refl))
-    (less-or-not most (l .count))
 
 four-members : {A : Type 0} (z : A) (l : List A) → length l ≡ 4 → getD l 0 z ∷ getD l 1 z ∷ getD l 2 z ∷ getD l 3 z ∷ [] ≡ l
 four-members z [] h = absurd (omega arith)

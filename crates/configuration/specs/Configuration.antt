@@ -1,5 +1,5 @@
--- The configuration body, rules B.1 and B.8 (document 01, "Numbers and bodies"): its fields in order, with names and alternative services where
--- they stand. A later edition's fields follow the mode, before the end.
+-- The configuration body, rules B.1 and B.8 (document 01, "Numbers and bodies"): its fields in order, with names and alternative services
+-- where they stand. A later edition adds its fields after the mode.
 use mathlib.Core.Bool.{cond}
 use Prim.Native.Nat.{ℕ, _%_}
 use mathlib.Core.List.{List}
@@ -120,9 +120,21 @@ setUp f l b =
       alts = l;
     }
 
--- and nothing follows the last field
+-- the fields that every edition has: up to the mode
 unfoldable pub restAt : List ℕ → Front → Items → (p : ℕ) → Reading Setup
-restAt s f l p = next (back s p) (λ b end. cond (ltb end (length s)) (fault trailing end) (read (setUp f l b) end))
+restAt s f l p = next (back s p) (λ b end. read (setUp f l b) end)
+
+unfoldable pub fieldsAt : List ℕ → Reading Setup
+fieldsAt s = next (front s) (λ f q. next (counted 4 (alt s) s q) (λ l q. restAt s f l q))
+
+-- An edition of the body is known by the fields that it adds after the mode; what they may be can hang on the fields before. Nothing follows
+-- the last field.
+unfoldable pub editionAt : {A : Type 0} → (added : List ℕ → Setup → ℕ → Reading A) → List ℕ → Reading A
+editionAt added s = next (fieldsAt s) (λ c q. next (added s c q) (λ v end. cond (ltb end (length s)) (fault trailing end) (read v end)))
+
+-- document 01's edition adds none
+abbrev pub noneAdded : List ℕ → Setup → ℕ → Reading Setup
+noneAdded s c p = read c p
 
 unfoldable pub setupAt : List ℕ → Reading Setup
-setupAt s = next (front s) (λ f q. next (counted 4 (alt s) s q) (λ l q. restAt s f l q))
+setupAt s = editionAt noneAdded s

@@ -1,4 +1,5 @@
--- What a sound configuration holds (rules B.8 and S.8): its alternative services and its names in their rooms, zero past counts and lengths.
+-- What a sound configuration holds (rules B.8 and S.8): its alternative services and its names in their rooms, zero past counts and
+-- lengths.
 use mathlib.Core.List.{List, _∷_, map}
 use Prim.Native.Nat.{ℕ}
 use lib.ListN.{length, getD, replicate}

@@ -1,5 +1,5 @@
--- A configuration as a host writes it (rule B.8), in plain values: its bytes, and what is held of it. proofs/GivenBack.antt has the law: what is
--- written is read back.
+-- A configuration as a host writes it (rule B.8), in plain values: its bytes, and what is held of it. proofs/GivenBack.antt has the law: what
+-- is written is read back.
 use Prim.Native.Nat.{ℕ, _%_, _^_, _≤_, _<_}
 use mathlib.Core.Path.{_≡_}
 use mathlib.Core.Bool.{true}

@@ -1,12 +1,12 @@
-// The configuration body (document 01, "Numbers and bodies"). A first pass finds the first fault, or says where things stand; a second copies
-// the alternative services and the names from there.
+// The configuration body (document 01, "Numbers and bodies"). A first pass finds the first fault, or says where things stand; a second
+// copies the alternative services and the names from there.
 ghost use mathlib.Core.Path.{_≡_};
 ghost use Rattle.numbers.specs.Shown.{spanShown};
 ghost use Rattle.parts.specs.Reading.{read, next, field};
 ghost use Rattle.parts.specs.Items.{items, past, counted};
 ghost use Rattle.parts.specs.Shown.{passedShown, itemsShown};
 ghost use Rattle.bodies.specs.Events.{faultOf};
-ghost use Rattle.configuration.specs.Configuration.{literalBy, originAt, altHostAt, versionOf, alt, preferenceOf, choices, front, multiplierAt, pace, modeOf, flagged, back, hostIn, setUp, restAt, setupAt};
+ghost use Rattle.configuration.specs.Configuration.{literalBy, originAt, altHostAt, versionOf, alt, preferenceOf, choices, front, multiplierAt, pace, modeOf, flagged, back, hostIn, setUp, restAt, fieldsAt, setupAt};
 ghost use Rattle.configuration.specs.Filling.{altHost, altOf, hostName, noAlternatives, altsIn, namesWith, configuredIn};
 ghost use Rattle.configuration.specs.Shown.{hostShown, altShown, frontShown, multiplierShown, paceShown, backShown, setupShown};
 ghost use Rattle.configuration.specs.declared.HostSpan.the-variants.{Named};
@@ -486,25 +486,20 @@ fn set_up(f: Front, alts: Items, b: Back) -> Setup
     }
 }
 
-// What follows the alternative services, and the end.
+// What follows the alternative services, up to the mode.
 fn read_rest(s: &[u8], at: usize, f: Front, alts: Items) -> SetupRead
     ensures { λ r. ⌜ setupShown r ≡ restAt (now (s .entry)) f alts at ⌝ }
 {
     let r = read_back(s, at);
     match r {
         BackRead::Refused(e, p) => SetupRead::Refused(e, p),
-        BackRead::Back(b, end) => {
-            if end < s.len() {
-                return SetupRead::Refused(Refusal::Trailing, end);
-            }
-            SetupRead::Setup(set_up(f, alts, b), end)
-        }
+        BackRead::Back(b, end) => SetupRead::Setup(set_up(f, alts, b), end),
     }
 }
 
-// A configuration body: its first fault, or what it says.
-pub fn read_configuration(s: &[u8]) -> SetupRead
-    ensures { λ r. ⌜ setupShown r ≡ setupAt (now (s .entry)) ⌝ }
+// The fields that every edition has.
+fn read_fields(s: &[u8]) -> SetupRead
+    ensures { λ r. ⌜ setupShown r ≡ fieldsAt (now (s .entry)) ⌝ }
 {
     let r = read_front(s);
     match r {
@@ -515,6 +510,22 @@ pub fn read_configuration(s: &[u8]) -> SetupRead
                 ItemsRead::Refused(e, p) => SetupRead::Refused(e, p),
                 ItemsRead::Items(alts, last) => read_rest(s, last, f, alts),
             }
+        }
+    }
+}
+
+// A configuration body: its first fault, or what it says. A later edition reads the fields that it adds before the end is tested.
+pub fn read_configuration(s: &[u8]) -> SetupRead
+    ensures { λ r. ⌜ setupShown r ≡ setupAt (now (s .entry)) ⌝ }
+{
+    let r = read_fields(s);
+    match r {
+        SetupRead::Refused(e, p) => SetupRead::Refused(e, p),
+        SetupRead::Setup(c, end) => {
+            if end < s.len() {
+                return SetupRead::Refused(Refusal::Trailing, end);
+            }
+            SetupRead::Setup(c, end)
         }
     }
 }

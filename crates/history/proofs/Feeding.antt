@@ -38,7 +38,7 @@ use Rattle.input.specs.declared.Outcome.{Outcome}
 use Rattle.input.specs.declared.Outcome.the-variants as outcome
 use Rattle.input.proofs.Laws.{held-after, failed-after, ended-after}
 use Rattle.machine.specs.declared.calls.Beside.{Beside}
-use Rattle.machine.specs.After.{queriesFed, attemptsFed, servicesFed, putQuery, putAttempt}
+use Rattle.after.specs.After.{queriesFed, attemptsFed, servicesFed, putQuery, putAttempt}
 use Rattle.machine.specs.Steps.{changeOf, judged}
 use Rattle.history.specs.History.{one}
 use Rattle.history.specs.Race.{changes}

@@ -15,13 +15,13 @@ use Rattle.state.specs.State.{made, noAttempts, noRetries, isPrefixed, httpsPla
 use Rattle.state.specs.declared.Machine.{Machine}
 use Rattle.starting.specs.Surveys.{firstPlace, latestOf, oldestOf, starts, triesOf, answerTimes, asksOf, hintsOf}
 use Rattle.starting.specs.Starting.{elapsed, attemptLeft, resolutionLeft, someAddress, moveOnWithoutTimeout, moveOnWithTimeout, mayStart}
-use Rattle.starting.specs.Wanted.{firstWanted, missing, originWanted, targetsWanted, altsWanted, wantedBy, nextQuery}
-use Rattle.starting.specs.Next.{retryEndpoints, nextRetry}
+use Rattle.upcoming.specs.Wanted.{firstWanted, missing, originWanted, targetsWanted, altsWanted, wantedBy, nextQuery}
+use Rattle.upcoming.specs.Next.{retryEndpoints, nextRetry}
 use Rattle.input.specs.Input.{askedFrom, askedOf, firstAnswer, answerVerdict}
 use Rattle.machine.specs.declared.calls.Beside.{Beside}
 use Rattle.machine.specs.declared.grant.Output.the-variants as output
 use Rattle.machine.specs.Output.{timerWish, gate, wishBy, wishOf, queryGrant, grantOf, granted}
-use Rattle.machine.specs.After.{putQuery}
+use Rattle.after.specs.After.{putQuery}
 use Rattle.machine.specs.Steps.{turnOf, outputStep, judged, inputStep}
 use Rattle.history.specs.History.{Automaton, calls, from, rising, runs, answers, finalsIn, punctual}
 use Rattle.history.specs.Race.{Fed, race}

@@ -22,14 +22,14 @@ use Rattle.records.specs.declared.queries.Query.{Query}
 use Rattle.state.specs.State.{httpsPlace}
 use Rattle.starting.specs.Surveys.{isKind, isAnswered, isAnsweredKind, came, answerTimes, soonerOf, oldestOf}
 use Rattle.starting.specs.Starting.{resolutionLeft, resolutionMet, someAddress, preferredSettled, moveOnWithoutTimeout, moveOnWithTimeout, unresolved, mayStart}
-use Rattle.starting.specs.Wanted.{missing, originAddresses, originWanted}
+use Rattle.upcoming.specs.Wanted.{missing, originAddresses, originWanted}
 use Rattle.starting.specs.declared.surveys.Moment.{Moment}
 use Rattle.starting.specs.declared.surveys.Moment.the-variants as moment
 use Rattle.starting.specs.declared.surveys.Kinds.{Kinds}
 use Rattle.starting.specs.declared.surveys.Asks.{Asks}
 use Rattle.starting.specs.declared.surveys.Hinted.{Hinted}
-use Rattle.starting.specs.declared.wanted.Wanted.{Wanted}
-use Rattle.starting.specs.declared.wanted.Wanted.the-variants as wanted
+use Rattle.upcoming.specs.declared.wanted.Wanted.{Wanted}
+use Rattle.upcoming.specs.declared.wanted.Wanted.the-variants as wanted
 use Rattle.starting.proofs.Laws.{met-or-left}
 use Rattle.machine.specs.Output.{originIn}
 

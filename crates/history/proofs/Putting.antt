@@ -14,7 +14,7 @@ use Rattle.records.specs.declared.queries.Queries.{Queries}
 use Rattle.state.specs.State.{asked, tried}
 use Rattle.state.specs.declared.attempts.Attempt.{Attempt}
 use Rattle.state.specs.declared.attempts.Attempts.{Attempts}
-use Rattle.machine.specs.After.{counted, putQuery, putAttempt}
+use Rattle.after.specs.After.{counted, putQuery, putAttempt}
 
 -- how many, in a room of r
 counted-in : (n p r : ℕ) → n ≤ r → p < r → counted n p ≤ r

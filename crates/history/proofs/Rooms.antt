@@ -20,7 +20,7 @@ use Rattle.state.specs.declared.changes.CallChange.the-variants as call
 use Rattle.state.specs.declared.changes.InputChange.{InputChange}
 use Rattle.state.specs.declared.changes.InputChange.the-variants as change
 use Rattle.machine.specs.declared.calls.Beside.{Beside}
-use Rattle.machine.specs.After.{putQuery, putAttempt}
+use Rattle.after.specs.After.{putQuery, putAttempt}
 use Rattle.machine.specs.Steps.{called, fed}
 use Rattle.history.proofs.Putting.{query-room, query-count, attempt-room, attempt-count}
 

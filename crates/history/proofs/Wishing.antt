@@ -27,16 +27,16 @@ use Rattle.state.specs.declared.Machine.{Machine}
 use Rattle.state.specs.declared.attempts.Attempt.{Attempt}
 use Rattle.starting.specs.Surveys.{firstPlace, laterOf, soonerOf, latestOf, oldestOf, starts, isOpenAttempt, triesOf, isKind, isAnswered, hasAddress, came, answerTimes, isDueQuery, asksOf, hintsOf}
 use Rattle.starting.specs.Starting.{elapsed, leftOf, attemptDelay, attemptLeft, resolutionLeft, someAddress, mayStart}
-use Rattle.starting.specs.Wanted.{wantedIn, wantedBy, nextQuery}
-use Rattle.starting.specs.Next.{attempted, nextOf, nextRetry, nextEndpoint}
+use Rattle.upcoming.specs.Wanted.{wantedIn, wantedBy, nextQuery}
+use Rattle.upcoming.specs.Next.{attempted, nextOf, nextRetry, nextEndpoint}
 use Rattle.starting.specs.declared.surveys.Moment.{Moment}
 use Rattle.starting.specs.declared.surveys.Moment.the-variants as moment
 use Rattle.starting.specs.declared.surveys.Place.{Place}
 use Rattle.starting.specs.declared.surveys.Place.the-variants as place
-use Rattle.starting.specs.declared.next.Next.{Next}
-use Rattle.starting.specs.declared.next.Next.the-variants as next
-use Rattle.starting.specs.declared.wanted.Wanted.{Wanted}
-use Rattle.starting.specs.declared.wanted.Wanted.the-variants as wanted
+use Rattle.upcoming.specs.declared.next.Next.{Next}
+use Rattle.upcoming.specs.declared.next.Next.the-variants as next
+use Rattle.upcoming.specs.declared.wanted.Wanted.{Wanted}
+use Rattle.upcoming.specs.declared.wanted.Wanted.the-variants as wanted
 use Rattle.machine.specs.declared.wish.Wish.{Wish}
 use Rattle.machine.specs.declared.wish.Wish.the-variants as wish
 use Rattle.machine.specs.Output.{endWish, reasonOf, lastWish, timerWish, refreshWish, queryWish, attemptWish, retryWish, gate, wishBy, wishOf, originIn}

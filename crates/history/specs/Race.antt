@@ -22,7 +22,7 @@ use Rattle.state.specs.declared.changes.InputChange.{InputChange}
 use Rattle.state.specs.declared.changes.InputChange.the-variants as change
 use Rattle.starting.specs.Surveys.{isOpenAttempt, isKind, isAnswered, isAnsweredKind, hasAddress, isFlying, asksOf, hintsOf}
 use Rattle.starting.specs.Starting.{someAddress}
-use Rattle.starting.specs.Next.{attempted}
+use Rattle.upcoming.specs.Next.{attempted}
 use Rattle.input.specs.declared.Input.{Input}
 use Rattle.machine.specs.declared.calls.Beside.{Beside}
 use Rattle.machine.specs.declared.wish.Wish.{Wish}

@@ -1,14 +1,8 @@
 // Runs document 01's known examples and says what each gives.
+use console::number;
+use console::text;
 use numbers::number::Read;
 use numbers::refusal::Refusal;
-
-fn text(s: &[u8]) {
-    io::write_all(1, s);
-}
-
-fn number(n: u64) {
-    io::print_decimal(1, n);
-}
 
 fn show_factor(multiplier: u32, in_progress: u64) {
     text(b"multiplier ");
@@ -30,31 +24,12 @@ fn show_product(delay: u64, factor: u32) {
     text(b" ns\n");
 }
 
-fn show_byte(b: u8) {
-    text(b" ");
-    io::print_hex(1, b as u64, 2);
-}
-
-fn show_bytes(s: &[u8]) {
-    let mut i: usize = 0;
-    while i < s.len() {
-        show_byte(s[i]);
-        i += 1;
-    }
-}
-
-fn show_first(s: &[u8], n: usize) {
-    if n <= s.len() {
-        show_bytes(&s[..n]);
-    }
-}
-
 fn show_written(n: u64) {
     number(n);
     text(b" is written");
     let mut out = [0u8; 10];
     numbers::number::write_number(&mut out, 0, n);
-    show_first(&out, numbers::number::number_len(n));
+    console::first(&out, numbers::number::number_len(n));
     text(b"\n");
 }
 
@@ -78,7 +53,7 @@ fn refusal_name(e: Refusal) {
 
 fn show_read(s: &[u8]) {
     text(b"the bytes");
-    show_bytes(s);
+    console::bytes(s);
     text(b" read as ");
     let r = numbers::number::read_number(s, 0);
     match r {
@@ -129,6 +104,52 @@ fn show_letter(letters: &[u8; 4], at: u16) {
     }
 }
 
+fn show_replayed(tape: &[u8]) {
+    let mut out = [0u8; 64];
+    let r = replay::tape::replay(tape, &mut out);
+    text(b" status ");
+    number(r.status as u64);
+    text(b", place ");
+    number(r.place as u64);
+    text(b", bytes ");
+    number(r.written as u64);
+    text(b", calls ");
+    number(r.calls as u64);
+    text(b"; answers");
+    console::first(&out, r.written);
+    text(b"\n");
+}
+
+fn show_whole() {
+    text(b"the whole tape:");
+    show_replayed(
+        b"\x15\xBB\x03\x01\xC0\x00\x02\x01\x07\x00\x00\x80\xE1\xEB\x17\x80\xE5\x9A\x77\x01\x03\x00\
+        \x00\x01\x07\x00\x01\x07\x64\x02\x05\x00\x64\x01\x07",
+    );
+}
+
+fn show_empty() {
+    text(b"the empty tape:");
+    show_replayed(b"");
+}
+
+// The call at a moment after the one answer, which came at 0: a timer while the delay isn't met, an attempt once it is.
+fn show_resolution(after: u64) {
+    let mut tape =
+        *b"\x15\xBB\x03\x00\x03a.b\x07\x00\x00\x80\xE1\xEB\x17\x80\xE5\x9A\x77\x01\x03\x00\x00\x01\x07\x00\x01\x07\
+        \x00\x01\x07\x00\x08\x02\x02\x00\x01\xC0\x00\x02\x01\x00\x00\x00\x00\x01\x07";
+    numbers::number::write_number(&mut tape, 41, after);
+    let mut out = [0u8; 64];
+    replay::tape::replay(&tape, &mut out);
+    text(b"resolution ");
+    number(after);
+    match out[26] {
+        2 => text(b" ns after the answer: delay not met\n"),
+        3 => text(b" ns after the answer: delay met\n"),
+        _ => text(b" ns after the answer: neither a timer nor an attempt\n"),
+    }
+}
+
 fn main() {
     show_factor(2, 0);
     show_factor(2, 1);
@@ -145,4 +166,8 @@ fn main() {
     show_read(b"\x80");
     show_dealt();
     show_id(18446744073709551615);
+    show_resolution(49999999);
+    show_resolution(50000000);
+    show_whole();
+    show_empty();
 }

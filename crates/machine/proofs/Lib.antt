@@ -1,5 +1,4 @@
 -- Laws that several proofs, and the crates above, cite.
-pub mod Filling
 pub mod Grants
 pub mod Looking
 pub mod Stepped

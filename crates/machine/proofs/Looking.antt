@@ -1,8 +1,7 @@
 -- What is found by class is what is found with the bytes; where nothing is looked for, nothing is found.
-use Prim.Native.Nat.{ℕ}
 use mathlib.Core.Path.{_≡_, refl, sym, ap, _∙_}
 use mathlib.Core.Bool.{Bool, true, false, false≢true, _||_}
-use Rattle.records.specs.Classes.{sameClass, sameNames}
+use Rattle.records.specs.Classes.{sameClass}
 use Rattle.records.specs.Names.{sameAt}
 use Rattle.records.specs.Endpoints.{sameEndpoint}
 use Rattle.records.specs.declared.names.Names.{Names}
@@ -16,14 +15,14 @@ use Rattle.records.proofs.Classes.{classes-same}
 use Rattle.listing.specs.Held.{Same}
 use Rattle.state.specs.declared.attempts.Attempts.{Attempts}
 use Rattle.state.specs.declared.attempts.Retries.{Retries}
-use Rattle.starting.specs.Alike.{alikeEndpoints, alikeOf, sameHostsOf, sameEchsOf}
-use Rattle.starting.specs.Next.{Alike, nextRetry, nextEndpoint}
-use Rattle.starting.specs.Wanted.{wantedBy}
-use Rattle.starting.specs.declared.alike.Alike as classes
+use Rattle.upcoming.specs.Alike.{alikeEndpoints, alikeOf, sameHostsOf, sameEchsOf}
+use Rattle.upcoming.specs.Next.{Alike, nextRetry, nextEndpoint}
+use Rattle.upcoming.specs.Wanted.{wantedBy}
+use Rattle.upcoming.specs.declared.alike.Alike as classes
 use Rattle.starting.specs.declared.surveys.Kinds.{Kinds}
-use Rattle.starting.specs.declared.next.Next.{Next}
-use Rattle.starting.specs.declared.wanted.Wanted.{Wanted}
-use Rattle.starting.proofs.Classed.{alike-same}
+use Rattle.upcoming.specs.declared.next.Next.{Next}
+use Rattle.upcoming.specs.declared.wanted.Wanted.{Wanted}
+use Rattle.upcoming.proofs.Classed.{alike-same}
 use Rattle.machine.specs.declared.wish.Look.{Look}
 use Rattle.machine.specs.declared.wish.Found.the-variants as found
 use Rattle.machine.specs.Output.{looks, ifLooked, retryFound, attemptFound, otherFound, laterFound, foundBy}

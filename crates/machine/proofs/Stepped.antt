@@ -1,7 +1,7 @@
 -- The two calls over the whole machine: what leaves it as it was, when Full is given, and that no timer is 0.
 use Prim.Native.Nat.{ℕ}
 use mathlib.Core.Path.{_≡_, ap}
-use mathlib.Core.Bool.{Bool, true, false, _&&_}
+use mathlib.Core.Bool.{true, false, _&&_}
 use lib.Dec.{leb}
 use lib.ListN.{getD}
 use Rattle.numbers.specs.declared.refusal.Refusal.{Refusal}

@@ -21,13 +21,13 @@ use Rattle.listing.specs.Held.{Same}
 use Rattle.state.specs.declared.attempts.Attempts.{Attempts}
 use Rattle.state.specs.declared.attempts.Retries.{Retries}
 use Rattle.starting.specs.Surveys.{triesOf, asksOf, hintsOf}
-use Rattle.starting.specs.Wanted.{orWanted, firstWanted, targetWanted, altWanted, originWanted, targetsWanted, altsWanted, wantedIn, wantedBy, nextQuery}
-use Rattle.starting.specs.Next.{Alike, retryEndpoints, nextRetry, nextEndpoint}
+use Rattle.upcoming.specs.Wanted.{orWanted, firstWanted, targetWanted, altWanted, originWanted, targetsWanted, altsWanted, wantedIn, wantedBy, nextQuery}
+use Rattle.upcoming.specs.Next.{Alike, retryEndpoints, nextRetry, nextEndpoint}
 use Rattle.starting.specs.declared.surveys.Place.{Place}
-use Rattle.starting.specs.declared.next.Next.{Next}
-use Rattle.starting.specs.declared.next.Next.the-variants as next
-use Rattle.starting.specs.declared.wanted.Wanted.{Wanted}
-use Rattle.starting.specs.declared.wanted.Wanted.the-variants as wanted
+use Rattle.upcoming.specs.declared.next.Next.{Next}
+use Rattle.upcoming.specs.declared.next.Next.the-variants as next
+use Rattle.upcoming.specs.declared.wanted.Wanted.{Wanted}
+use Rattle.upcoming.specs.declared.wanted.Wanted.the-variants as wanted
 use Rattle.machine.specs.declared.calls.Survey.{Survey}
 use Rattle.machine.specs.declared.wish.Look.{Look}
 use Rattle.machine.specs.declared.wish.Found.{Found}

@@ -14,8 +14,8 @@ use Rattle.starting.specs.declared.surveys.Tries.{Tries}
 use Rattle.starting.specs.declared.surveys.Asks.{Asks}
 use Rattle.starting.specs.declared.surveys.Place.{Place}
 use Rattle.starting.specs.declared.surveys.Place.the-variants as place
-use Rattle.starting.specs.declared.wanted.Wanted.{Wanted}
-use Rattle.starting.specs.declared.wanted.Wanted.the-variants as wanted
+use Rattle.upcoming.specs.declared.wanted.Wanted.{Wanted}
+use Rattle.upcoming.specs.declared.wanted.Wanted.the-variants as wanted
 use Rattle.machine.specs.declared.wish.Reason.{Reason}
 use Rattle.machine.specs.declared.wish.Found.{Found}
 use Rattle.machine.specs.declared.wish.Found.the-variants as found

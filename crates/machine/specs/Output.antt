@@ -31,18 +31,18 @@ use Rattle.state.specs.declared.attempts.Retries.{Retries}
 use Rattle.state.specs.declared.changes.CallChange.the-variants as change
 use Rattle.starting.specs.Surveys.{triesOf, asksOf, hintsOf}
 use Rattle.starting.specs.Starting.{attemptLeft, resolutionLeft, mayStart}
-use Rattle.starting.specs.Wanted.{originWanted, wantedBy, nextQuery}
-use Rattle.starting.specs.Next.{Alike, nextRetry, nextEndpoint}
+use Rattle.upcoming.specs.Wanted.{originWanted, wantedBy, nextQuery}
+use Rattle.upcoming.specs.Next.{Alike, nextRetry, nextEndpoint}
 use Rattle.starting.specs.declared.surveys.Tries.{Tries}
 use Rattle.starting.specs.declared.surveys.Asks.{Asks}
 use Rattle.starting.specs.declared.surveys.Hinted.{Hinted}
 use Rattle.starting.specs.declared.surveys.Kinds.{Kinds}
 use Rattle.starting.specs.declared.surveys.Place.{Place}
 use Rattle.starting.specs.declared.surveys.Place.the-variants as place
-use Rattle.starting.specs.declared.next.Next.{Next}
-use Rattle.starting.specs.declared.next.Next.the-variants as next
-use Rattle.starting.specs.declared.wanted.Wanted.{Wanted}
-use Rattle.starting.specs.declared.wanted.Wanted.the-variants as wanted
+use Rattle.upcoming.specs.declared.next.Next.{Next}
+use Rattle.upcoming.specs.declared.next.Next.the-variants as next
+use Rattle.upcoming.specs.declared.wanted.Wanted.{Wanted}
+use Rattle.upcoming.specs.declared.wanted.Wanted.the-variants as wanted
 use Rattle.machine.specs.declared.wish.Reason.{Reason}
 use Rattle.machine.specs.declared.wish.Reason.the-variants.{Dns, Connection}
 use Rattle.machine.specs.declared.wish.Look.{Look}

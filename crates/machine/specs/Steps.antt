@@ -22,7 +22,7 @@ use Rattle.machine.specs.declared.calls.Taken.{Taken}
 use Rattle.machine.specs.declared.calls.Taken.the-variants as taken
 use Rattle.machine.specs.declared.grant.Turn.{Turn}
 use Rattle.machine.specs.Output.{lookOf, wishOf, granted}
-use Rattle.machine.specs.After.{queriesCalled, attemptsCalled, idsCalled, queriesFed, attemptsFed, retriesFed, answersFed, servicesFed, namesFed, echsFed}
+use Rattle.after.specs.After.{queriesCalled, attemptsCalled, idsCalled, queriesFed, attemptsFed, retriesFed, answersFed, servicesFed, namesFed, echsFed}
 
 -- the machine after a change that a call makes, and after one that an input makes
 abbrev pub called : Machine → CallChange → Machine

@@ -1,5 +1,4 @@
-// The machine: what the rules call for, what is given, what an event changes, and the two calls (document 01, parts 6 and 7).
-pub mod after;
+// The machine: what the rules call for, what is given, and the two calls (document 01, parts 6 and 7).
 pub mod calls;
 pub mod grant;
 pub mod wish;

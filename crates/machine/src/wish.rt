@@ -1,9 +1,9 @@
 // What the rules call for, with no limit in it. "Order as `process_output_inner`".
 ghost use mathlib.Core.Path.{_≡_};
 ghost use Rattle.records.specs.Classes.{sameClass};
-ghost use Rattle.starting.specs.Alike.{alikeEndpoints};
-ghost use Rattle.starting.specs.Next.{nextRetry, nextEndpoint};
-ghost use Rattle.starting.specs.Wanted.{wantedBy};
+ghost use Rattle.upcoming.specs.Alike.{alikeEndpoints};
+ghost use Rattle.upcoming.specs.Next.{nextRetry, nextEndpoint};
+ghost use Rattle.upcoming.specs.Wanted.{wantedBy};
 ghost use Rattle.starting.specs.Starting.{resolutionLeft, attemptLeft};
 ghost use Rattle.machine.specs.Output.{endWish, reasonOf, lastWish, timerWish, restWish, gate, hasOthers, lookOf, looks, ifLooked, queryFound, otherFound, laterFound, foundBy, nextOrigin, queryWish, wishFrom};
 use records::endpoints::Endpoint;
@@ -16,10 +16,6 @@ use records::rules::Mode;
 use records::rules::Rules;
 use records::rules::Timing;
 use records::services::Services;
-use starting::alike::Alike;
-use starting::next::Next;
-use starting::next::next_endpoint;
-use starting::next::next_retry;
 use starting::pace::attempt_left;
 use starting::pace::may_start;
 use starting::pace::resolution_left;
@@ -28,11 +24,15 @@ use starting::surveys::Hinted;
 use starting::surveys::Place;
 use starting::surveys::Tries;
 use starting::surveys::either;
-use starting::wanted::Wanted;
-use starting::wanted::next_query;
-use starting::wanted::origin_wanted;
 use state::attempts::Attempts;
 use state::attempts::Retries;
+use upcoming::alike::Alike;
+use upcoming::next::Next;
+use upcoming::next::next_endpoint;
+use upcoming::next::next_retry;
+use upcoming::wanted::Wanted;
+use upcoming::wanted::next_query;
+use upcoming::wanted::origin_wanted;
 
 // `FailureReason`
 pub enum Reason {

@@ -1,20 +1,21 @@
--- Bytes of a body copied one by one into a room of zeros.
+-- Bytes of a body copied into a room of zeros.
 --     fits-there            bytes that fit lie in the body
---     copy-more, copy-end   a loop that copies: one byte more, none left
 --     kept-there, kept-none what is kept of the bytes
+--     put-kept              bytes that fit, put into the room, are what is kept
 --     kept-few              what is kept fits its room
 --     name-back, ech-back   the bytes in a room are those that were copied
 use mathlib.Core.Path.{_≡_, refl, sym, ap, _∙_}
 use mathlib.Core.Bool.{Bool, true, false, cond, _&&_}
-use mathlib.Core.List.{List, [], _∷_}
-use Prim.Native.Nat.{ℕ, suc, _+_, _-_, _≤_, _<_}
-use native.Mathlib.Numerals.{add-one}
+use mathlib.Core.List.{List, []}
+use Prim.Native.Nat.{ℕ, _+_, _-_, _≤_}
 use native.Mathlib.Omega.{arith}
 use lib.Dec.{leb}
-use lib.ListN.{length, take, drop, getD, set, replicate, length-take, length-drop, drop-of-length-le}
-use lib.Seq.{sets, drop-cons, getD-take, getD-drop, take-at}
+use lib.ListN.{length, take, drop, replicate, length-take, length-drop, length-replicate}
+use lib.Seq.{take-at}
 use borrow.Author.Tests.{leb-true}
 use Rattle.numbers.specs.Fields.{spanBytes}
+use Rattle.numbers.specs.Put.{putBytes}
+use Rattle.numbers.proofs.PutLaws as put
 use Rattle.numbers.specs.declared.field.Span.{Span}
 use Rattle.records.specs.Lists.{padded}
 use Rattle.records.specs.Names.{nameBytes, echBytes}
@@ -40,27 +41,17 @@ pub kept-none : (room : ℕ) (s : List ℕ) (b : Span) → fits room s b ≡ fal
 unfolding kept
 kept-none room s b e = rw e
 
-module _ (s : List ℕ) (start len : ℕ) (h : start + len ≤ length s) where
-  pub span-length : length (take len (drop start s)) ≡ len
-  span-length = rw (length-take, length-drop) (omega arith)
+pub span-length : (s : List ℕ) (start len : ℕ) → start + len ≤ length s → length (take len (drop start s)) ≡ len
+span-length s start len h = rw (length-take, length-drop) (omega arith)
 
-  next-byte : (i : ℕ) → i < len → drop i (take len (drop start s)) ≡ getD s (start + i) 0 ∷ drop (i + 1) (take len (drop start s))
-  next-byte i l =
-      let b : i < length (take len (drop start s)) = omega (arith, span-length) in
-      let g : getD (take len (drop start s)) i 0 ≡ getD s (start + i) 0 = getD-take len (drop start s) i 0 l ∙ getD-drop start s i 0 in
-      rw (add-one, ← g) (drop-cons (take len (drop start s)) i 0 b)
-
-  pub copy-more : (out : List ℕ) (i : ℕ) (w : List ℕ) → i < len → sets out i (drop i (take len (drop start s))) ≡ w
-      → sets (set out i (getD s (start + i) 0)) (i + 1) (drop (i + 1) (take len (drop start s))) ≡ w
-  copy-more out i w l e =
-      let k : i + 1 ≡ suc i = add-one i in
-      ap (λ j. sets (set out i (getD s (start + i) 0)) j (drop (i + 1) (take len (drop start s)))) k ∙ ap (sets out i) (sym (next-byte i l)) ∙ e
-
-  pub copy-end : (m : ℕ) (out : List ℕ) (i : ℕ) → len ≤ m → len ≤ i → sets out i (drop i (take len (drop start s))) ≡ sets (replicate m 0) 0 (take len (drop start s))
-      → out ≡ padded m 0 (take len (drop start s))
-  copy-end m out i b l e =
-      let d : drop i (take len (drop start s)) ≡ [] = drop-of-length-le (take len (drop start s)) {i = i} (omega (arith, span-length)) in
-      ap (sets out i) (sym d) ∙ e ∙ sets-padded 0 m (take len (drop start s)) (omega (arith, span-length))
+pub put-kept : (room : ℕ) (s : List ℕ) (b : Span) → fits room s b ≡ true → {out : List ℕ} → out ≡ putBytes (replicate room 0) 0 (take (b .start + b .len - b .start) (drop (b .start) s))
+    → (b .len ≡ length (kept room s b)) × (out ≡ padded room 0 (kept room s b))
+put-kept room s b e f =
+    let x = fits-there room s b e in
+    let l = span-length s (b .start) (b .len) (x .1) in
+    let n : b .start + b .len - b .start ≡ b .len = omega arith in
+    let few : 0 + length (spanBytes s b) ≤ length {A = ℕ} (replicate room 0) = rw length-replicate (omega (arith, l, x .0)) in
+    rw (kept-there room s b e) (sym l, (rw n at f) ∙ (sym (put.room (replicate room 0) 0 (spanBytes s b) few .1) ∙ sets-padded 0 room (spanBytes s b) (omega (arith, l, x .0))))
 
 pub name-back : (bs : List ℕ) → nameBytes (nameIn bs) ≡ bs
 unfolding nameBytes nameIn padded

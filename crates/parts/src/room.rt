@@ -3,6 +3,7 @@ ghost use mathlib.Core.Path.{_≡_};
 ghost use Rattle.parts.specs.Rooms.{fits, kept, nameIn, echIn};
 use numbers::field::Span;
 use numbers::put::has_room;
+use numbers::put::put_bytes;
 use records::names::Ech;
 use records::names::Name;
 use records::names::no_ech;
@@ -25,16 +26,12 @@ pub fn name_of(s: &[u8], b: Span) -> Name
     if !is_kept(s, b, 253) {
         return no_name();
     }
-    let n = b.len;
+    let len = b.len;
     let start = b.start;
-    let mut bytes: [u8; 253] = [0; 253];
-    let mut i: usize = 0;
-    while i < n {
-        let q = start + i;
-        bytes[i] = s[q];
-        i += 1;
-    }
-    Name { len: n, bytes }
+    let end = start + len;
+    let mut bytes = [0u8; 253];
+    put_bytes(&mut bytes, 0, &s[start..end]);
+    Name { len, bytes }
 }
 
 // ECH bytes.
@@ -44,14 +41,10 @@ pub fn ech_of(s: &[u8], b: Span) -> Ech
     if !is_kept(s, b, 512) {
         return no_ech();
     }
-    let n = b.len;
+    let len = b.len;
     let start = b.start;
-    let mut bytes: [u8; 512] = [0; 512];
-    let mut i: usize = 0;
-    while i < n {
-        let q = start + i;
-        bytes[i] = s[q];
-        i += 1;
-    }
-    Ech { len: n, bytes }
+    let end = start + len;
+    let mut bytes = [0u8; 512];
+    put_bytes(&mut bytes, 0, &s[start..end]);
+    Ech { len, bytes }
 }

@@ -2,3 +2,4 @@
 pub mod Branches
 pub mod Back
 pub mod AnswerBack
+pub mod Settled

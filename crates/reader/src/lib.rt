@@ -10,7 +10,6 @@ use numbers::field::SpanRead;
 use numbers::field::read_at_most;
 use numbers::field::read_bytes;
 use numbers::number::Read;
-use numbers::number::read_number;
 use numbers::refusal::Refusal;
 use records::endpoints::Rank;
 use records::queries::Kind;

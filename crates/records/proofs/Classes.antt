@@ -9,11 +9,12 @@ use lib.Dec.{eqb}
 use lib.ListN.{length, getD, set, length-set}
 use lib.Seq.{getD-set-same, getD-set-other, ext-getD}
 use borrow.Author.Tests.{eq-eqb, eqb-true, lt-ltb, le-ltb}
+use Rattle.records.specs.Lists.{cell}
 use Rattle.records.specs.Names.{nameBytes, nameBytesAt, nameAt, noName, blankName, sameName, sameAt}
 use Rattle.records.specs.Classes.{firstFrom, classOf, classesFrom, sameNames, classAt, sameClass}
 use Rattle.records.specs.declared.names.Names.{Names}
 use Rattle.records.proofs.Bytes.{other-length}
-use Rattle.records.proofs.SameName.{Equivalence, same-name, same-places}
+use Rattle.records.proofs.SameName.{Equivalence, same-name, by-bytes}
 
 -- the first that passes is q places on, if none before it does
 first-at : (test : ℕ → Bool) (i n q : ℕ) → q < n → ((k : ℕ) → k < q → test (i + k) ≡ false) → test (i + q) ≡ true → i + q ≡ firstFrom test i n
@@ -167,57 +168,63 @@ module _ (n : ℕ) (same : ℕ → ℕ → Bool) (list : List ℕ) (p q : ℕ) (
       ext-getD 0 list (classesFrom n same 0 n) (c .long ∙ sym (classes-length n same 0 n))
       (λ k l. let z : 0 + k ≡ k = omega arith in c .done k (omega (arith, c .long)) ∙ (ap (classOf n same) (sym z) ∙ sym (classes-at n same 0 n k (omega (arith, c .long)))))
 
+-- what the classes of a table say of a place; outside it the last number
+pub class-is : (n : ℕ) (same : ℕ → ℕ → Bool) → Table n same → (p : ℕ) → cell n 0 n (classesFrom n same 0 n) p ≡ classOf n same p
+unfolding classOf
+class-is n same t p = elim (decLt p n) [ yes h ↦ rw (lt-ltb _ _ h) (let z : 0 + p ≡ p = omega arith in classes-at n same 0 n p h ∙ ap (classOf n same) z) | no h ↦ rw (le-ltb p n (omega arith)) (out (omega arith)) ]
+  where
+    out : n ≤ p → n ≡ classOf n same p
+    out h = ap (λ b. cond b n (firstFrom (λ k. same k p) 0 n)) (sym (t .outside p h))
+
+-- A table of bytes: `held` is what the code reads at a place. It compares lengths first, and outside the table there are no bytes.
+pub record Held (n : ℕ) (like : List ℕ → List ℕ → Bool) (same : ℕ → ℕ → Bool) (held : ℕ → List ℕ) : Type 0 where
+  pub table : Table n same
+  pub empty : (p : ℕ) → p < n → length (held p) ≡ 0 → same n p ≡ true
+  pub full : (p : ℕ) → p < n → (length (held p) ≡ 0 → ⊥) → same n p ≡ false
+  pub inside : (p : ℕ) → p < n → (q : ℕ) → q < n → like (held q) (held p) ≡ same q p
+  pub apart : (p : ℕ) → p < n → (q : ℕ) → q < n → (length (held p) ≡ length (held q) → ⊥) → same q p ≡ false
+
 empty-of : (x : List ℕ) → length x ≡ 0 → x ≡ []
 empty-of [] e = refl
 empty-of (a ∷ x) e = absurd (omega arith)
 
--- the names of a table
-names-outside : (names : Names) (p : ℕ) → 14 ≤ p → nameAt names p ≡ noName
+-- whatever the bytes are compared by, as long as it is an equivalence that tells lengths apart
+pub held-bytes : (n : ℕ) (like : List ℕ → List ℕ → Bool) (at held : ℕ → List ℕ) → Equivalence like → ((x y : List ℕ) → (length x ≡ length y → ⊥) → false ≡ like x y)
+    → ((p : ℕ) → n ≤ p → at p ≡ []) → ((p : ℕ) → p < n → at p ≡ held p) → Held n like (λ p q. like (at p) (at q)) held
+held-bytes n like at held alike other out here =
+    record {
+      table = record { alike = by-bytes like alike at; outside = λ p h. rw (out p h, none) (alike .itself []) };
+      empty = λ p h e. rw (none, here p h, empty-of (held p) e) (alike .itself []);
+      full = λ p h e. rw (none, here p h) (sym (other [] (held p) (λ f. e (sym f))));
+      inside = λ p h q k. rw (here p h, here q k);
+      apart = λ p h q k e. rw (here p h, here q k) (sym (other (held q) (held p) (λ f. e (sym f))));
+    }
+  where
+    none : at n ≡ []
+    none = out n (omega arith)
+
+-- Names
+pub name-outside : (names : Names) (p : ℕ) → 14 ≤ p → nameBytesAt names p ≡ []
+unfolding nameBytes nameAt noName
+name-outside names p h = rw (le-ltb _ _ h)
+
+pub name-inside : (names : Names) (p : ℕ) → p < 14 → nameBytesAt names p ≡ nameBytes (getD (names .list) p blankName)
 unfolding nameAt
-names-outside names p h = rw (le-ltb _ _ h)
+name-inside names p h = rw (lt-ltb _ _ h)
 
-named-table : (names : Names) → Table 14 (sameAt names)
+other-name : (x y : List ℕ) → (length x ≡ length y → ⊥) → false ≡ sameName x y
+unfolding sameName
+other-name = other-length
+
+pub names-held : (names : Names) → Held 14 sameName (sameAt names) (λ p. nameBytes (getD (names .list) p blankName))
 unfolding sameAt
-named-table names = record { alike = same-places names; outside = outside }
-  where
-    outside : (p : ℕ) → 14 ≤ p → sameAt names 14 p ≡ true
-    outside p h = rw (names-outside names p h, names-outside names 14 (omega arith)) (same-name .itself (nameBytes noName))
+names-held names = held-bytes 14 sameName (nameBytesAt names) (λ p. nameBytes (getD (names .list) p blankName)) same-name other-name (name-outside names) (name-inside names)
 
-class-is : (names : Names) (p : ℕ) → classAt (sameNames names) p ≡ classOf 14 (sameAt names) p
-unfolding classAt sameNames classOf
-class-is names p = elim (decLt p 14) [ yes h ↦ rw (lt-ltb _ _ h) (let z : 0 + p ≡ p = omega arith in classes-at 14 (sameAt names) 0 14 p h ∙ ap (classOf 14 (sameAt names)) z) | no h ↦ rw (le-ltb p 14 (omega arith)) (out (omega arith)) ]
-  where
-    out : 14 ≤ p → 14 ≡ classOf 14 (sameAt names) p
-    out h = ap (λ b. cond b 14 (firstFrom (λ k. sameAt names k p) 0 14)) (sym (named-table names .outside p h))
+name-class : (names : Names) (p : ℕ) → classAt (sameNames names) p ≡ classOf 14 (sameAt names) p
+unfolding classAt sameNames
+name-class names p = class-is 14 (sameAt names) (names-held names .table) p
 
 -- the classes of a table of names say what its bytes say
 pub classes-same : (names : Names) → sameClass (sameNames names) ≡ sameAt names
 unfolding sameClass
-classes-same names = λ j p q. ((ap (λ k. eqb k (classAt (sameNames names) q)) (class-is names p) ∙ ap (λ k. eqb (classOf 14 (sameAt names) p) k) (class-is names q)) ∙ by-class 14 (sameAt names) (named-table names) p q) j
-
--- what the code compares: names in the table, an empty one against one outside, and lengths that differ
-module _ (names : Names) (p : ℕ) (h : p < 14) where
-  pub name-in : nameAt names p ≡ getD (names .list) p blankName
-  unfolding nameAt
-  name-in = rw (lt-ltb _ _ h)
-
-  outside-name : nameBytesAt names 14 ≡ []
-  unfolding nameBytes noName
-  outside-name = ap nameBytes (names-outside names 14 (omega arith))
-
-  pub empty-out : length (nameBytes (getD (names .list) p blankName)) ≡ 0 → sameAt names 14 p ≡ true
-  unfolding sameAt
-  empty-out e = rw (outside-name, name-in, empty-of (nameBytes (getD (names .list) p blankName)) e) (same-name .itself [])
-
-  pub full-out : (length (nameBytes (getD (names .list) p blankName)) ≡ 0 → ⊥) → sameAt names 14 p ≡ false
-  unfolding sameAt sameName
-  full-out e = rw (outside-name, name-in) (sym (other-length [] _ (λ f. e (sym f))))
-
-  module _ (q : ℕ) (k : q < 14) where
-    pub same-in : sameName (nameBytes (getD (names .list) q blankName)) (nameBytes (getD (names .list) p blankName)) ≡ sameAt names q p
-    unfolding sameAt nameAt
-    same-in = rw (lt-ltb _ _ h, lt-ltb _ _ k)
-
-    pub lengths-apart : (length (nameBytes (getD (names .list) p blankName)) ≡ length (nameBytes (getD (names .list) q blankName)) → ⊥) → sameAt names q p ≡ false
-    unfolding sameName
-    lengths-apart e = sym same-in ∙ sym (other-length _ _ (λ f. e (sym f)))
+classes-same names = λ j p q. ((ap (λ k. eqb k (classAt (sameNames names) q)) (name-class names p) ∙ ap (λ k. eqb (classOf 14 (sameAt names) p) k) (name-class names q)) ∙ by-class 14 (sameAt names) (names-held names .table) p q) j

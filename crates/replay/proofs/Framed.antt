@@ -1,6 +1,6 @@
 -- A frame takes a byte at least, and its body lies in the tape, at its end; the configuration's likewise.
 use Prim.Native.Nat.{ℕ, zero, suc, _+_, _-_, _*_, _%_, _≤_, _<_}
-use mathlib.Core.Path.{_≡_, refl, sym, ap, _∙_}
+use mathlib.Core.Path.{_≡_, refl, ap, _∙_}
 use mathlib.Core.Bool.{Bool, true, false, cond}
 use mathlib.Core.List.{List, [], _∷_}
 use native.Mathlib.Omega.{arith}
@@ -11,7 +11,7 @@ use Rattle.numbers.specs.Fields.{atMost, bytesAt, spanBytes}
 use Rattle.numbers.specs.Numbers.{readNumber, groups, below}
 use Rattle.numbers.specs.Refusals.{badNumber, outOfRange}
 use Rattle.numbers.specs.declared.field.Span.{Span}
-use Rattle.numbers.proofs.Steps.{There, there}
+use Rattle.numbers.proofs.Steps.{there}
 use Rattle.replay.specs.Frames.{longestBody, bodyAt, Frame, frameAt}
 
 -- the place after what was read, or else the next one

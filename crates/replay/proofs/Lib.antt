@@ -1,7 +1,7 @@
 -- Laws that several proofs, and the crates above, cite.
 pub mod Checking
 pub mod Framed
-pub mod Replying
+pub mod Settled
 pub mod Steps
 pub mod Taped
 pub mod Turning

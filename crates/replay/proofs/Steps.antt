@@ -7,13 +7,11 @@ use mathlib.Core.List.{List}
 use lib.ListN.{getD}
 use borrow.Author.Tests.{lt-ltb, le-ltb}
 use Rattle.numbers.proofs.Cases.{less-or-not}
-use Rattle.numbers.specs.Refusals.{refusalNumber}
 use Rattle.records.specs.Classes.{sameClass}
 use Rattle.records.specs.Names.{sameAt, nameBytes, nameAt, nameBytesAt, blankName, echBytes, echAt, echBytesAt, blankEch}
-use Rattle.records.specs.Endpoints.{sameEndpoint}
-use Rattle.starting.specs.Alike.{sameHostsOf, sameEchsOf, alikeEndpoints, alikeOf}
-use Rattle.starting.specs.Next as next
-use Rattle.starting.specs.declared.alike.Alike as classes
+use Rattle.upcoming.specs.Alike.{sameHostsOf, sameEchsOf, alikeEndpoints, alikeOf}
+use Rattle.upcoming.specs.Next as next
+use Rattle.upcoming.specs.declared.alike.Alike as classes
 use Rattle.listing.specs.Held.{Same}
 use Rattle.pacing.specs.declared.id.IdGenerator.{IdGenerator}
 use Rattle.records.specs.declared.names.Names.{Names}
@@ -34,7 +32,7 @@ use Rattle.state.specs.declared.Machine.{Machine}
 use Rattle.state.specs.declared.changes.CallChange.the-variants as call
 use Rattle.state.specs.declared.changes.InputChange.the-variants as input
 use Rattle.machine.specs.declared.calls.Beside.{Beside}
-use Rattle.machine.specs.After.{answersFed, servicesFed, retriesFed, namesFed, echsFed}
+use Rattle.after.specs.After.{answersFed, servicesFed, retriesFed, namesFed, echsFed}
 use Rattle.machine.specs.Output.{wishBy, wishOf, granted}
 use Rattle.machine.specs.Steps.{turnOf, judged, outputStep, inputStep}
 use Rattle.records.proofs.Classes.{classes-same}
@@ -51,14 +49,14 @@ use Rattle.bodies.specs.declared.EventRead.{EventRead}
 use Rattle.bodies.specs.declared.EventRead.the-variants as reads
 use Rattle.answers.specs.Answers.{Said}
 use Rattle.answers.specs.Outputs.{saidOf, namedAt, outputName, sealedAt, outputEch}
-use Rattle.replay.specs.declared.reply.Answer.{Answer}
-use Rattle.replay.specs.declared.reply.Answer.the-variants as answer
-use Rattle.replay.specs.declared.reply.Change.{Change}
-use Rattle.replay.specs.declared.reply.Change.the-variants as change
-use Rattle.replay.specs.declared.reply.Reply.{Reply}
-use Rattle.replay.specs.declared.reply.Touched.{Touched}
-use Rattle.replay.specs.declared.reply.Touched.the-variants as touched
-use Rattle.replay.specs.Replies.{replyBy, replyOn, eventIn, after, changeIn, idsAfter, queriesAfter, attemptsAfter, touchedOf}
+use Rattle.replies.specs.declared.Answer.{Answer}
+use Rattle.replies.specs.declared.Answer.the-variants as answer
+use Rattle.replies.specs.declared.Change.{Change}
+use Rattle.replies.specs.declared.Change.the-variants as change
+use Rattle.replies.specs.declared.Reply.{Reply}
+use Rattle.replies.specs.declared.Touched.{Touched}
+use Rattle.replies.specs.declared.Touched.the-variants as touched
+use Rattle.replies.specs.Replies.{replyBy, replyOn, eventIn, after, changeIn, idsAfter, queriesAfter, attemptsAfter, touchedOf}
 use Rattle.replay.specs.Saying.{answerName, answerEch, saidTo}
 use Rattle.replay.specs.Replay.{Step, stepBy, stepOf}
 

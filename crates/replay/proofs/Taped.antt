@@ -1,6 +1,6 @@
 -- The run of a whole tape, by its configuration.
 use Prim.Native.Nat.{ℕ}
-use mathlib.Core.Path.{_≡_, refl}
+use mathlib.Core.Path.{_≡_}
 use mathlib.Core.List.{List}
 use Rattle.numbers.specs.Fields.{spanBytes}
 use Rattle.numbers.specs.Got.{got, refused}

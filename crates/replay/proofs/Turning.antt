@@ -27,17 +27,17 @@ use Rattle.state.specs.declared.Machine.{Machine}
 use Rattle.state.specs.declared.attempts.Attempts.{Attempts}
 use Rattle.state.specs.declared.attempts.Retries.{Retries}
 use Rattle.state.specs.declared.changes.InputChange.{InputChange}
-use Rattle.machine.specs.After.{servicesFed, retriesFed, namesFed, echsFed}
+use Rattle.after.specs.After.{servicesFed, retriesFed, namesFed, echsFed}
 use Rattle.offers.specs.declared.Offered.{Offered}
 use Rattle.bodies.specs.Told.{offeredOf, retryOf, besideOf}
 use Rattle.bodies.specs.declared.Event.{Event}
 use Rattle.answers.specs.Answers.{answerBytes}
-use Rattle.replay.specs.declared.reply.Change.{Change}
-use Rattle.replay.specs.declared.reply.Touched.the-variants as touched
+use Rattle.replies.specs.declared.Change.{Change}
+use Rattle.replies.specs.declared.Touched.the-variants as touched
 use Rattle.replay.specs.Frames.{Frame, frameAt}
 use Rattle.replay.specs.Replay.{Step, stepOf, Run, ended, ahead, run, runFrom}
 use Rattle.replay.proofs.Framed.{frame-lies}
-use Rattle.replay.specs.Replies.{changeIn, queriesAfter, attemptsAfter}
+use Rattle.replies.specs.Replies.{changeIn, queriesAfter, attemptsAfter}
 use Rattle.replay.proofs.Steps.{few-calls, parts, partsBy}
 
 -- `rest`, behind what is written and counted, is `all`

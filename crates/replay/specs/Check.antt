@@ -8,7 +8,7 @@ use Rattle.numbers.specs.Fields.{spanBytes}
 use Rattle.numbers.specs.Got.{Got, got, refused}
 use Rattle.bodies.specs.Events.{eventAt, faultOf}
 use Rattle.configuration.specs.Configuration.{setupAt}
-use Rattle.replay.specs.Frames.{Frame, bodyAt, frameAt}
+use Rattle.replay.specs.Frames.{bodyAt, frameAt}
 
 -- a fault, or else what comes after it
 abbrev pub orElse : ℕ → ℕ → ℕ

@@ -1,5 +1,4 @@
 pub mod Frames
-pub mod Replies
 pub mod Saying
 pub mod Replay
 pub mod Check

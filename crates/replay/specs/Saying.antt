@@ -4,8 +4,8 @@ use mathlib.Core.List.{List}
 use Rattle.answers.specs.Answers.{Said}
 use Rattle.answers.specs.Answers as said
 use Rattle.answers.specs.Outputs.{saidBy, outputName, outputEch, takenNumber}
-use Rattle.replay.specs.declared.reply.Answer.{Answer}
-use Rattle.replay.specs.declared.reply.Answer.the-variants as answer
+use Rattle.replies.specs.declared.Answer.{Answer}
+use Rattle.replies.specs.declared.Answer.the-variants as answer
 
 -- the places of the name and of the ECH bytes that an answer has, and what it says with them
 abbrev pub answerName : Answer → ℕ

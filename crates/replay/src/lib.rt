@@ -1,6 +1,5 @@
 // Tapes: frames, replay, tape check (document 01, "Refusal numbers" and part 8).
 pub mod check;
 pub mod frames;
-mod reply;
 pub mod run;
 pub mod tape;

@@ -33,11 +33,10 @@ use Rattle.input.specs.declared.Outcome.the-variants as outcome
 use Rattle.input.specs.declared.Verdict.{Verdict}
 use Rattle.input.specs.declared.Verdict.the-variants as verdict
 use Rattle.input.proofs.Laws.{held-after, failed-after, ended-after}
-use Rattle.machine.specs.After.{queriesFed, putQuery, putAttempt, putAddresses, putNames, putEchs, putRetry, putEch}
+use Rattle.after.specs.After.{queriesFed, putQuery, putAttempt, putAddresses, putNames, putEchs, putRetry, putEch}
 use Rattle.machine.specs.Steps.{fed, takenOf, judged, inputStep}
 use Rattle.machine.specs.declared.calls.Beside.{Beside}
 use Rattle.machine.specs.declared.calls.Taken.the-variants.{Accepted}
-use Rattle.standing.specs.Lists.{_and_}
 use Rattle.standing.specs.Standing.{heldOf, standing}
 use Rattle.standing.specs.Sound.{servicesSound, answerSound, sound}
 use Rattle.standing.specs.Kept.{Offered, Brought, Holds, Again, EndsNow, EndsAs, EndsOne}

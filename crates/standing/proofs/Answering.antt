@@ -24,7 +24,7 @@ use Rattle.state.specs.declared.changes.Round.{Round}
 use Rattle.state.specs.declared.changes.Round.the-variants.{First, Second}
 use Rattle.input.specs.Input.{recordAt, withAnswer}
 use Rattle.input.specs.Verdicts.{Waits, MayBe, refreshAfter}
-use Rattle.machine.specs.After.{putAddresses}
+use Rattle.after.specs.After.{putAddresses}
 use Rattle.machine.specs.Output.{refreshed}
 use Rattle.machine.specs.Steps.{called, fed}
 use Rattle.machine.specs.declared.calls.Beside.{Beside}

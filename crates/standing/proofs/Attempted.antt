@@ -19,7 +19,7 @@ use Rattle.records.specs.declared.endpoints.Target.the-variants.{V4, V6, Named}
 use Rattle.state.specs.State.{noAttempt, tried, retriesOf}
 use Rattle.state.specs.declared.Machine.{Machine}
 use Rattle.input.specs.Input.{attemptAt}
-use Rattle.standing.specs.Lists.{_and_, every}
+use Rattle.standing.specs.Lists.{every}
 use Rattle.standing.specs.Standing.{named, kept, targetIn, echIn, attemptIn, phase, standing}
 use Rattle.standing.specs.Kept.{Event, inForm, after, afterAll, Attempted}
 use Rattle.standing.proofs.Lists.{left, right, every-at, used-length}

@@ -39,9 +39,9 @@ use Rattle.state.specs.declared.changes.Round.{Round}
 use Rattle.state.specs.declared.changes.Round.the-variants.{First, Second}
 use Rattle.input.specs.Input.{recordAt, withAnswer}
 use Rattle.input.specs.Verdicts.{Waits, MayBe, refreshAfter}
-use Rattle.machine.specs.After.{putNames}
-use Rattle.machine.specs.declared.after.TargetNames.{TargetNames}
-use Rattle.standing.specs.Lists.{_and_, _or_, has}
+use Rattle.after.specs.After.{putNames}
+use Rattle.after.specs.declared.TargetNames.{TargetNames}
+use Rattle.standing.specs.Lists.{has}
 use Rattle.standing.specs.Standing.{zero?, emptyService, keyOf, keys, sameKey, oneEach, steady, tidy, tidyQuery, heldOf, held, kindOf, addressed, come, phaseOf, queryPhase, phase, holdsHttps, queryHolds, holding, nameNeeds, named, namedKey, kept, targetIn, echIn, attemptIn, served, nameStands, echStands, ownName, lies, configured}
 use Rattle.standing.proofs.Lists.{no, both, left, right, rule, all3, all4, or-imp, every-imp, at-imp, at-within, sets-before, sets-past, apart-like, used-same}
 use Rattle.standing.proofs.Parts.{Standing, Fits, Tabled, fits-put}

@@ -28,7 +28,6 @@ use Rattle.input.specs.declared.Outcome.{Outcome}
 use Rattle.input.specs.declared.Outcome.the-variants as outcome
 use Rattle.machine.specs.Steps.{fed, inputStep}
 use Rattle.machine.specs.declared.calls.Beside.{Beside}
-use Rattle.standing.specs.Lists.{_and_}
 use Rattle.standing.specs.Standing.{keyOf, keys, isHttps, httpsFirst, heldOf, standing}
 use Rattle.standing.specs.Sound.{answerSound, sound}
 use Rattle.standing.proofs.Lists.{no, left, right, every-at, used-length}

@@ -45,9 +45,9 @@ use Rattle.listing.specs.declared.runs.Run.{Run}
 use Rattle.listing.proofs.Endpoints.{endpoint-from}
 use Rattle.state.specs.State.{tried, retriesOf, noAttempt}
 use Rattle.state.specs.declared.Machine.{Machine}
-use Rattle.starting.specs.Next.{Alike, attempted, nextOf, retriedAt, retryEndpoints, nextRetry, nextEndpoint}
-use Rattle.starting.specs.declared.next.Next.{Next}
-use Rattle.starting.specs.declared.next.Next.the-variants as next
+use Rattle.upcoming.specs.Next.{Alike, attempted, nextOf, retriedAt, retryEndpoints, nextRetry, nextEndpoint}
+use Rattle.upcoming.specs.declared.next.Next.{Next}
+use Rattle.upcoming.specs.declared.next.Next.the-variants as next
 use Rattle.standing.specs.Lists.{_and_, every, has}
 use Rattle.standing.specs.Standing.{phase, named, kept, targetIn, echIn, attemptIn, echOf, serviceStands, refused}
 use Rattle.standing.proofs.Lists.{both, left, right, rule, or-left, or-right, or-true, mark-in, every-imp, every-all, every-join, every-map, every-at, every-each}

@@ -34,10 +34,10 @@ use Rattle.state.specs.declared.changes.Round.{Round}
 use Rattle.state.specs.declared.changes.Round.the-variants.{First, Second}
 use Rattle.input.specs.Input.{recordAt, withAnswer}
 use Rattle.input.specs.Verdicts.{Waits, MayBe, refreshAfter}
-use Rattle.machine.specs.After.{echPlace, placedAt, placedFrom, placedServices, putNames, putEchs}
+use Rattle.after.specs.After.{echPlace, placedAt, placedFrom, placedServices, putNames, putEchs}
 use Rattle.machine.specs.Steps.{fed}
-use Rattle.machine.specs.declared.after.TargetNames.{TargetNames}
-use Rattle.machine.specs.declared.after.TargetEchs.{TargetEchs}
+use Rattle.after.specs.declared.TargetNames.{TargetNames}
+use Rattle.after.specs.declared.TargetEchs.{TargetEchs}
 use Rattle.machine.specs.declared.calls.Beside.{Beside}
 use Rattle.standing.specs.Lists.{_and_, _or_, all, every, everyAt}
 use Rattle.standing.specs.Standing.{zero?, emptyService, fits, heldOf, holdsHttps, nameNeeds, named, kept, echOf, serviceStands, served, nameStands, echStands}

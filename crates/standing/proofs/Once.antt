@@ -29,7 +29,7 @@ use Rattle.state.specs.declared.attempts.Attempt.{Attempt}
 use Rattle.state.specs.declared.attempts.Attempts.{Attempts}
 use Rattle.state.specs.declared.changes.CallChange.the-variants as calls
 use Rattle.input.specs.Input.{recordAt, attemptAt}
-use Rattle.starting.specs.Next.{attempted}
+use Rattle.upcoming.specs.Next.{attempted}
 use Rattle.machine.specs.Output.{wishOf, only, newQuery, refreshed, queryGrant, attemptGrant, grantOf, granted}
 use Rattle.machine.specs.Steps.{called, turnOf, outputStep}
 use Rattle.machine.specs.declared.grant.Output.the-variants as output
@@ -37,7 +37,7 @@ use Rattle.machine.specs.declared.grant.Table.the-variants as table
 use Rattle.machine.specs.declared.grant.Turn.{Turn}
 use Rattle.machine.specs.declared.wish.Wish.{Wish}
 use Rattle.machine.specs.declared.wish.Wish.the-variants as wish
-use Rattle.standing.specs.Lists.{_and_, every, apart}
+use Rattle.standing.specs.Lists.{every, apart}
 use Rattle.standing.specs.Standing.{Key, keyOf, keyAt, keys, sameKey, oneEach, recordIds, attemptId, idsOf, idle, named, namedKey, phase, standing}
 use Rattle.standing.specs.Kept.{Event, call, inForm, after, afterAll, Ask, query, refresh, attempt, cancel, askOf, asksAt, IsFor, Asked, Once}
 use Rattle.standing.proofs.Lists.{no, both, left, right, every-at, none-passes, eqb-sym, used-length}

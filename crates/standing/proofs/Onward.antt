@@ -38,7 +38,7 @@ use Rattle.input.specs.Input.{recordAt, attemptAt, withAnswer, isFailed, stored
 use Rattle.input.specs.Verdicts.{Waits, MayBe, Answered, Ended, Ends, again, endOf, refreshAfter}
 use Rattle.input.specs.declared.Outcome.{Outcome}
 use Rattle.input.specs.declared.Outcome.the-variants as outcome
-use Rattle.machine.specs.After.{queriesCalled, attemptsCalled, putQuery, putAttempt, putEchs, putEch}
+use Rattle.after.specs.After.{queriesCalled, attemptsCalled, putQuery, putAttempt, putEchs, putEch}
 use Rattle.machine.specs.Output.{wishOf, only, newQuery, refreshed, queryGrant, attemptGrant, grantOf, granted}
 use Rattle.machine.specs.Steps.{called, fed, turnOf, outputStep, inputStep}
 use Rattle.machine.specs.declared.calls.Beside.{Beside}
@@ -46,8 +46,8 @@ use Rattle.machine.specs.declared.grant.Output.the-variants as output
 use Rattle.machine.specs.declared.grant.Table.the-variants as table
 use Rattle.machine.specs.declared.wish.Wish.{Wish}
 use Rattle.machine.specs.declared.wish.Wish.the-variants as wish
-use Rattle.machine.specs.declared.after.TargetEchs.{TargetEchs}
-use Rattle.standing.specs.Lists.{_and_, _or_, every, has}
+use Rattle.after.specs.declared.TargetEchs.{TargetEchs}
+use Rattle.standing.specs.Lists.{_or_, every, has}
 use Rattle.standing.specs.Standing.{named, kept, phase, refused, heldOf, idle}
 use Rattle.standing.specs.Kept.{Event, call, feed, inForm, after}
 use Rattle.standing.specs.Sound.{servicesSound, answerSound}

@@ -18,10 +18,10 @@ use Rattle.records.specs.declared.queries.Kind.the-variants.{Https, Aaaa, A}
 use Rattle.records.specs.declared.queries.Queries.{Queries}
 use Rattle.state.specs.State.{asked, httpsPlace}
 use Rattle.starting.specs.Surveys.{isKind, kindsOf}
-use Rattle.starting.specs.Wanted.{missing, originAddresses, originWanted}
+use Rattle.upcoming.specs.Wanted.{missing, originAddresses, originWanted}
 use Rattle.starting.specs.declared.surveys.Kinds.{Kinds}
-use Rattle.starting.specs.declared.wanted.Wanted.{Wanted}
-use Rattle.starting.specs.declared.wanted.Wanted.the-variants as wanted
+use Rattle.upcoming.specs.declared.wanted.Wanted.{Wanted}
+use Rattle.upcoming.specs.declared.wanted.Wanted.the-variants as wanted
 use Rattle.standing.specs.Standing.{Key, keyOf, keyAt, keys, isKey, agree, addressKeys, keysIn, firstKeys, originFirst}
 use Rattle.standing.proofs.Lists.{no, both, left, right}
 

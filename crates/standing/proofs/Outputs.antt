@@ -21,24 +21,23 @@ use Rattle.state.specs.State.{noAttempt, asked, tried, retriesOf, isOpen}
 use Rattle.state.specs.declared.Machine.{Machine}
 use Rattle.state.specs.declared.attempts.State.the-variants.{Cancelled}
 use Rattle.input.specs.Input.{recordAt, attemptAt}
-use Rattle.starting.specs.Next.{attempted, nextRetry, nextEndpoint}
+use Rattle.upcoming.specs.Next.{attempted, nextRetry, nextEndpoint}
 use Rattle.starting.specs.Surveys.{firstPlace, triesOf, asksOf, hintsOf, isOpenAttempt, hasWonAttempt, isDue, isDueQuery}
 use Rattle.starting.specs.Starting.{attemptLeft, resolutionLeft}
-use Rattle.starting.specs.Wanted.{nextQuery}
-use Rattle.starting.specs.declared.next.Next.{Next}
-use Rattle.starting.specs.declared.next.Next.the-variants as next
+use Rattle.upcoming.specs.Wanted.{nextQuery}
+use Rattle.upcoming.specs.declared.next.Next.{Next}
+use Rattle.upcoming.specs.declared.next.Next.the-variants as next
 use Rattle.starting.specs.declared.surveys.Tries.{Tries}
 use Rattle.starting.specs.declared.surveys.Asks.{Asks as Survey}
 use Rattle.starting.specs.declared.surveys.Place.{Place}
 use Rattle.starting.specs.declared.surveys.Place.the-variants as place
-use Rattle.starting.specs.declared.wanted.Wanted.{Wanted}
-use Rattle.starting.specs.declared.wanted.Wanted.the-variants as wanted
+use Rattle.upcoming.specs.declared.wanted.Wanted.{Wanted}
+use Rattle.upcoming.specs.declared.wanted.Wanted.the-variants as wanted
 use Rattle.machine.specs.Output.{endWish, lastWish, timerWish, refreshWish, queryWish, attemptWish, retryWish, gate, wishBy, wishOf, reasonOf, queryGrant, attemptGrant, grantOf, granted}
 use Rattle.machine.specs.Steps.{called, turnOf, outputStep}
 use Rattle.machine.specs.declared.grant.Turn.{Turn}
 use Rattle.machine.specs.declared.wish.Wish.{Wish}
 use Rattle.machine.specs.declared.wish.Wish.the-variants as wish
-use Rattle.standing.specs.Lists.{_and_}
 use Rattle.standing.specs.Standing.{keys, phase, standing}
 use Rattle.standing.proofs.Lists.{no, used-length}
 use Rattle.standing.proofs.Parts.{Standing, stands, parts}

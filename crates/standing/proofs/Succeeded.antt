@@ -26,18 +26,18 @@ use Rattle.input.specs.Input.{recordAt, attemptAt, withAnswer, isFailed, stored
 use Rattle.input.specs.Verdicts.{attemptsIn, Answered, Ended, Ends, refreshAfter}
 use Rattle.input.specs.declared.Outcome.{Outcome}
 use Rattle.starting.specs.Surveys.{firstPlace, triesOf, asksOf, hintsOf, isOpenAttempt}
-use Rattle.starting.specs.Next.{nextRetry, nextEndpoint}
-use Rattle.starting.specs.Wanted.{nextQuery}
+use Rattle.upcoming.specs.Next.{nextRetry, nextEndpoint}
+use Rattle.upcoming.specs.Wanted.{nextQuery}
 use Rattle.starting.specs.Starting.{attemptLeft, resolutionLeft}
-use Rattle.starting.specs.declared.next.Next.{Next}
-use Rattle.starting.specs.declared.next.Next.the-variants as next
+use Rattle.upcoming.specs.declared.next.Next.{Next}
+use Rattle.upcoming.specs.declared.next.Next.the-variants as next
 use Rattle.starting.specs.declared.surveys.Tries.{Tries}
 use Rattle.starting.specs.declared.surveys.Asks.{Asks}
 use Rattle.starting.specs.declared.surveys.Place.{Place}
 use Rattle.starting.specs.declared.surveys.Place.the-variants as place
-use Rattle.starting.specs.declared.wanted.Wanted.{Wanted}
-use Rattle.starting.specs.declared.wanted.Wanted.the-variants as wanted
-use Rattle.machine.specs.After.{attemptsFed}
+use Rattle.upcoming.specs.declared.wanted.Wanted.{Wanted}
+use Rattle.upcoming.specs.declared.wanted.Wanted.the-variants as wanted
+use Rattle.after.specs.After.{attemptsFed}
 use Rattle.machine.specs.Output.{endWish, lastWish, timerWish, refreshWish, queryWish, attemptWish, retryWish, gate, wishBy, wishOf, reasonOf, queryGrant, attemptGrant, grantOf, granted}
 use Rattle.machine.specs.Steps.{turnOf, outputStep, inputStep}
 use Rattle.machine.specs.declared.grant.Output.{Output}

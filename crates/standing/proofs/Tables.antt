@@ -13,7 +13,7 @@ use Rattle.state.specs.declared.Machine.{Machine}
 use Rattle.state.specs.declared.attempts.Attempt.{Attempt}
 use Rattle.state.specs.declared.attempts.Attempts.{Attempts}
 use Rattle.state.specs.declared.attempts.Retries.{Retries}
-use Rattle.machine.specs.After.{putQuery, putAttempt, putRetry}
+use Rattle.after.specs.After.{putQuery, putAttempt, putRetry}
 use Rattle.standing.specs.Standing.{idle, begun}
 use Rattle.standing.proofs.Lists.{total-few, used-length}
 use Rattle.standing.proofs.Parts.{Standing}

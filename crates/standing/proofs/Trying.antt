@@ -23,7 +23,7 @@ use Rattle.state.specs.declared.attempts.Attempts.{Attempts}
 use Rattle.state.specs.declared.changes.CallChange.the-variants.{Tries, Cancels}
 use Rattle.state.specs.declared.changes.InputChange.the-variants.{Ends, Retries}
 use Rattle.input.specs.Input.{attemptAt}
-use Rattle.machine.specs.After.{putEch}
+use Rattle.after.specs.After.{putEch}
 use Rattle.machine.specs.Steps.{called, fed}
 use Rattle.machine.specs.declared.calls.Beside.{Beside}
 use Rattle.standing.specs.Lists.{_and_, _or_, every, everyAt, total, has}

@@ -29,9 +29,9 @@ use Rattle.records.specs.declared.queries.Query.{Query}
 use Rattle.records.specs.declared.queries.Queries.{Queries}
 use Rattle.state.specs.State.{asked, isPrefixed, httpsPlace}
 use Rattle.state.specs.declared.Machine.{Machine}
-use Rattle.starting.specs.Wanted.{orWanted, firstWanted, isAskedAt, isAsked, askedFor, isMissing, missing, placeWanted, originAddresses, originWanted, targetWanted, targetsWanted, ownName, altWanted, altsWanted, wantedIn, wantedBy, nextQuery}
-use Rattle.starting.specs.declared.wanted.Wanted.{Wanted}
-use Rattle.starting.specs.declared.wanted.Wanted.the-variants as wanted
+use Rattle.upcoming.specs.Wanted.{orWanted, firstWanted, isAskedAt, isAsked, askedFor, isMissing, missing, placeWanted, originAddresses, originWanted, targetWanted, targetsWanted, ownName, altWanted, altsWanted, wantedIn, wantedBy, nextQuery}
+use Rattle.upcoming.specs.declared.wanted.Wanted.{Wanted}
+use Rattle.upcoming.specs.declared.wanted.Wanted.the-variants as wanted
 use Rattle.standing.specs.Lists.{_and_, _or_, every}
 use Rattle.standing.specs.Standing.{zero?, Key, keyOf, keyAt, keys, sameKey, isHttps, agree, keysIn, firstKeys, originFirst, phaseOf, queryPhase, phase, holdsHttps, queryHolds, holding, nameNeeds, named, serviceStands, served}
 use Rattle.standing.proofs.Lists.{no, rule, or-second, every-imp, every-map, none-passes, eqb-sym, at-at}

@@ -1,5 +1,5 @@
 -- Unused room is the zero value itself: one content has one value.
-use Prim.Native.Nat.{ℕ, zero, _-_, _<_}
+use Prim.Native.Nat.{ℕ, _-_, _<_}
 use mathlib.Core.Path.{_≡_, refl, sym, ap, _∙_}
 use mathlib.Core.Bool.{Bool, true, false, not}
 use mathlib.Core.List.{List, [], _∷_, _++_}
@@ -40,7 +40,7 @@ use Rattle.input.specs.Input.{recordAt}
 use Rattle.state.specs.declared.attempts.Attempt.{Attempt}
 use Rattle.state.specs.declared.attempts.State.{State}
 use Rattle.state.specs.declared.attempts.State.the-variants as state
-use Rattle.standing.specs.Lists.{_and_, every}
+use Rattle.standing.specs.Lists.{every}
 use Rattle.standing.specs.Standing.{fits, zero?, emptyAddr, emptyHint, pending, emptyQuery, ownPort, emptyService, emptyTarget, emptyAttempt, originHost, isH3, emptyAlt, held, addressesStand, addressed, serviceStands, nameStands, echStands, standing}
 use Rattle.standing.specs.Kept.{ZerosPast, Rooms}
 use Rattle.standing.proofs.Lists.{no, left, right, rule, at-at}

@@ -25,7 +25,7 @@ use Rattle.input.specs.Verdicts.{Waits, refreshAfter, endOf}
 use Rattle.input.specs.declared.Input.{Input}
 use Rattle.input.specs.declared.Outcome.{Outcome}
 use Rattle.input.specs.declared.Outcome.the-variants as outcome
-use Rattle.machine.specs.After.{placedServices}
+use Rattle.after.specs.After.{placedServices}
 use Rattle.machine.specs.Steps.{outputStep, inputStep}
 use Rattle.machine.specs.declared.calls.Beside.{Beside}
 use Rattle.machine.specs.declared.grant.Output.{Output}

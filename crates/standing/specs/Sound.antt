@@ -17,8 +17,8 @@ use Rattle.standing.specs.Lists.{_and_, _or_, all, every, everyAt}
 use Rattle.standing.specs.Standing.{fits, zero?, emptyHint, addressesStand}
 use Rattle.input.specs.declared.Input.{Input}
 use Rattle.input.specs.declared.Input.the-variants as input
-use Rattle.machine.specs.declared.after.TargetNames.{TargetNames}
-use Rattle.machine.specs.declared.after.TargetEchs.{TargetEchs}
+use Rattle.after.specs.declared.TargetNames.{TargetNames}
+use Rattle.after.specs.declared.TargetEchs.{TargetEchs}
 use Rattle.machine.specs.declared.calls.Beside.{Beside}
 
 -- a service's hints

@@ -1,4 +1,4 @@
--- What gate, timers and queries come to: the gate is shut exactly while the attempt timer is given, whatever the clock does.
+-- What gate and timers come to: the gate is shut exactly while the attempt timer is given, whatever the clock does.
 use Prim.Native.Nat.{ℕ, _-_, _≤_, _<_, min, max}
 use mathlib.Core.Path.{_≡_, refl, sym, ap, _∙_}
 use mathlib.Core.Bool.{Bool, true, false, not, cond}
@@ -11,16 +11,11 @@ use borrow.Author.Tests.{lt-ltb, le-ltb, le-leb, lt-leb, ltb-true}
 use Rattle.records.specs.Lists.{some?}
 use Rattle.records.specs.declared.rules.Timing.{Timing}
 use Rattle.records.specs.declared.queries.Queries.{Queries}
-use Rattle.records.specs.declared.rules.Rules.{Rules}
-use Rattle.records.specs.declared.rules.Alts.{Alts}
-use Rattle.records.specs.declared.services.Services.{Services}
-use Rattle.listing.specs.Held.{Same}
 use Rattle.state.specs.State.{asked, tried}
 use Rattle.state.specs.declared.attempts.Attempts.{Attempts}
 use Rattle.starting.specs.declared.surveys.Moment.{Moment}
 use Rattle.starting.specs.declared.surveys.Moment.the-variants as moment
 use Rattle.starting.specs.Surveys.{laterOf, soonerOf, latestOf, oldestOf, starts, answerTimes, triesOf, asksOf}
-use Rattle.starting.specs.Wanted.{wantedBy, nextQuery}
 use Rattle.starting.specs.Starting.{elapsed, leftOf, attemptDelay, attemptLeft, withinDelay, resolutionMet}
 
 -- "Elapsed is 0 if the clock went back"
@@ -88,8 +83,3 @@ met-at-equality d now s e = le-leb d (elapsed now s) (omega (arith, e))
 
 pub met-or-left : (d now s : ℕ) → resolutionMet d (moment.At s) now ≡ not (ltb 0 (leftOf d (moment.At s) now))
 met-or-left d now s = met-while d (elapsed now s)
-
--- the code is given the types that were asked for, and finds the query that is wanted
-pub wanted-next : (r : Rules) (a : Alts) (q : Queries) (s : Services) (same : Same) → wantedBy (asksOf q .asked) r a q s same ≡ nextQuery r a q s same
-unfolding nextQuery asksOf
-wanted-next r a q s same = refl

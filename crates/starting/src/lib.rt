@@ -1,7 +1,3 @@
-// When attempts may start, which queries are wanted, what is attempted next (document 01, part 5; `move_on_*`, `send_dns_*`).
-pub mod alike;
-pub mod classes;
-pub mod next;
+// When attempts may start: surveys of the records, start rules, gate and timers (document 01, part 5; `move_on_*`).
 pub mod pace;
 pub mod surveys;
-pub mod wanted;

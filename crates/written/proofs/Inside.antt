@@ -1,8 +1,9 @@
--- Where reading stops: the number of a fault is one of 1 to 6, its place lies in the body or at its end, and a body without fault is read to its end.
+-- Where reading stops: the number of a fault is one of 1 to 6, its place lies in the body or at its end, and a body without fault is read to
+-- its end.
 --     Plain, Inside         of a field, and of reading
 --     event-inside          of a body
---     fault-number, fault-place, read-whole
-use mathlib.Core.Path.{_≡_, refl, subst}
+--     fault-number, fault-place, read-whole, zero-whole, whole-zero     what `body_fault` gives
+use mathlib.Core.Path.{_≡_, refl, sym, ap, subst, _∙_}
 use mathlib.Core.Bool.{Bool, true, false, cond}
 use mathlib.Core.List.{List, [], _∷_}
 use Prim.Native.Nat.{ℕ, zero, suc, _+_, _-_, _*_, _%_, _≤_, _<_}
@@ -67,27 +68,27 @@ module _ {A : Type 0} (most : ℕ) where
   plain-then (refused n) f g h = plain-refused n (g .number n refl)
 
 module _ {A : Type 0} (s : List ℕ) where
-  in-read : (v : A) (q : ℕ) → q ≤ length s → Inside s (read v q)
+  pub in-read : (v : A) (q : ℕ) → q ≤ length s → Inside s (read v q)
   in-read v q h = record {
     number = λ n p e. absurd (let z : _≡_ {A = ℕ} 0 1 = cc in omega arith);
     ends = λ w end e. let x : end ≡ q = cc in omega (arith, x, h);
   }
 
-  in-fault : (n p : ℕ) → Small n → p ≤ length s → Inside {A = A} s (fault n p)
+  pub in-fault : (n p : ℕ) → Small n → p ≤ length s → Inside {A = A} s (fault n p)
   in-fault n p h i = record {
     number = λ m q e. let x : n ≡ m = cc in let y : q ≡ p = cc in (subst Small x h, omega (arith, y, i));
     ends = λ w end e. absurd (let z : _≡_ {A = ℕ} 0 1 = cc in omega arith);
   }
 
-  in-cond : (t : Bool) (a b : Reading A) → Inside s a → Inside s b → Inside s (cond t a b)
+  pub in-cond : (t : Bool) (a b : Reading A) → Inside s a → Inside s b → Inside s (cond t a b)
   in-cond true a b g h = g
   in-cond false a b g h = h
 
-  in-next : {B : Type 0} (r : Reading B) (f : B → ℕ → Reading A) → Inside s r → ((v : B) (q : ℕ) → q ≤ length s → Inside s (f v q)) → Inside s (next r f)
+  pub in-next : {B : Type 0} (r : Reading B) (f : B → ℕ → Reading A) → Inside s r → ((v : B) (q : ℕ) → q ≤ length s → Inside s (f v q)) → Inside s (next r f)
   in-next (read v q) f g h = h v q (g .ends v q refl)
   in-next (fault n p) f g h = let x = g .number n p refl in in-fault n p (x .0) (x .1)
 
-  in-field : (p : ℕ) → p ≤ length s → (r : Got A) → Plain (length s) r → Inside s (field p r)
+  pub in-field : (p : ℕ) → p ≤ length s → (r : Got A) → Plain (length s) r → Inside s (field p r)
   in-field p h (got v q) g = in-read v q (g .ends v q refl)
   in-field p h (refused n) g = in-fault n p (g .number n refl) h
 
@@ -109,7 +110,7 @@ within-groups (suc left) p (b ∷ bs) =
 
 -- fields
 module _ (s : List ℕ) where
-  number-plain : (p : ℕ) → p ≤ length s → Plain (length s) (readNumber s p)
+  pub number-plain : (p : ℕ) → p ≤ length s → Plain (length s) (readNumber s p)
   unfolding readNumber
   number-plain p h =
       let w = within-groups 9 p (drop p s) in
@@ -131,7 +132,7 @@ module _ (s : List ℕ) where
     ends = λ b end e. let t = there s n p e in omega (arith, t .after, t .inside);
   }
 
-  name-plain : (limit p : ℕ) → p ≤ length s → Plain (length s) (nameAt s limit p)
+  pub name-plain : (limit p : ℕ) → p ≤ length s → Plain (length s) (nameAt s limit p)
   unfolding nameAt nameLength named
   name-plain limit p h =
       plain-then (length s) (nameLength limit (readNumber s p)) (named s)
@@ -140,7 +141,7 @@ module _ (s : List ℕ) where
       (λ n q i. plain-then (length s) (bytesAt s n q) (λ b r. cond (nameOk (spanBytes s b)) (got b r) (refused badName)) (bytes-plain n q)
       (λ b r j. plain-cond (length s) (nameOk (spanBytes s b)) (got b r) (refused badName) (plain-got (length s) b r j) (plain-refused (length s) badName (omega arith, omega arith))))
 
-  range-inside : (limit p : ℕ) → p ≤ length s → Inside s (field p (atMost limit outOfRange (readNumber s p)))
+  pub range-inside : (limit p : ℕ) → p ≤ length s → Inside s (field p (atMost limit outOfRange (readNumber s p)))
   range-inside limit p h = in-field s p h (atMost limit outOfRange (readNumber s p)) (most-plain limit outOfRange p (omega arith, omega arith) h)
 
   size-inside : (limit p : ℕ) → p ≤ length s → Inside s (field p (atMost limit tooMany (readNumber s p)))
@@ -160,18 +161,18 @@ module _ (s : List ℕ) where
     past-inside (read l q) g = in-read s tt q (g .ends l q refl)
     past-inside (fault n p) g = let x = g .number n p refl in in-fault s n p (x .0) (x .1)
 
-    counted-inside : (most p : ℕ) → p ≤ length s → Inside s (counted most f s p)
+    pub counted-inside : (most p : ℕ) → p ≤ length s → Inside s (counted most f s p)
     unfolding counted
     counted-inside most p h =
         in-next s (field p (atMost most tooMany (readNumber s p))) _ (size-inside most p h) (λ n q i.
         in-next s (past (items f n q)) (λ t end. read (record { count = n; first = q }) end) (past-inside (items f n q) (items-inside n q i)) (λ t end j. in-read s (record { count = n; first = q }) end j))
 
   -- addresses
-  four-inside : (p : ℕ) → p ≤ length s → Inside s (four s p)
+  pub four-inside : (p : ℕ) → p ≤ length s → Inside s (four s p)
   unfolding four
   four-inside p h = in-next s (field p (bytesAt s 4 p)) (λ b end. read (record { hi = 0; lo = word s p; scope = 0 }) end) (bytes-inside 4 p h) (λ b end i. in-read s (record { hi = 0; lo = word s p; scope = 0 }) end i)
 
-  six-inside : (p : ℕ) → p ≤ length s → Inside s (six s p)
+  pub six-inside : (p : ℕ) → p ≤ length s → Inside s (six s p)
   unfolding six
   six-inside p h = in-next s (field p (bytesAt s 16 p)) (λ b end. read (record { hi = long s p; lo = long s (p + 8); scope = 0 }) end) (bytes-inside 16 p h) (λ b end i. in-read s (record { hi = long s p; lo = long s (p + 8); scope = 0 }) end i)
 
@@ -188,11 +189,11 @@ module _ (s : List ℕ) where
   address-inside Scoped p h = scoped-inside p h
 
   -- services
-  versions-inside : (p : ℕ) → p ≤ length s → Inside s (versionsAt s p)
+  pub versions-inside : (p : ℕ) → p ≤ length s → Inside s (versionsAt s p)
   unfolding versionsAt
   versions-inside p h = in-next s (field p (atMost 7 outOfRange (readNumber s p))) (λ v end. read (versionsOf v) end) (range-inside 7 p h) (λ v end i. in-read s (versionsOf v) end i)
 
-  port-inside : (p : ℕ) → p ≤ length s → Inside s (portAt s p)
+  pub port-inside : (p : ℕ) → p ≤ length s → Inside s (portAt s p)
   unfolding portAt
   port-inside p h = in-next s (field p (atMost 65536 outOfRange (readNumber s p))) (λ v end. read (portOf v) end) (range-inside 65536 p h) (λ v end i. in-read s (portOf v) end i)
 
@@ -275,16 +276,24 @@ module _ (s : List ℕ) where
       in-next s (bodyAt s) (λ e end. cond (ltb end (length s)) (fault trailing end) (read e end)) body-inside (λ e end i.
       in-cond s (ltb end (length s)) (fault trailing end) (read e end) (in-fault s trailing end (omega arith, omega arith) i) (in-read s e end i))
 
-  -- what `body_fault` gives
+  -- what a fault gives
   module _ {A : Type 0} where
-    number-small : (r : Reading A) → Inside s r → faultOf r .number ≤ 6
+    pub number-small : (r : Reading A) → Inside s r → faultOf r .number ≤ 6
     number-small (read v end) g = omega arith
     number-small (fault n p) g = g .number n p refl .0 .1
 
-    place-inside : (r : Reading A) → Inside s r → faultOf r .place ≤ length s
+    pub place-inside : (r : Reading A) → Inside s r → faultOf r .place ≤ length s
     place-inside (read v end) g = g .ends v end refl
     place-inside (fault n p) g = g .number n p refl .1
 
+    pub none-read : (r : Reading A) → Inside s r → faultOf r .number ≡ 0 → (v : A) × (read v (faultOf r .place) ≡ r)
+    none-read (read v end) g z = (v, refl)
+    none-read (fault n p) g z = absurd (let h = g .number n p refl .0 .0 in omega arith)
+
+    pub read-none : (r : Reading A) {v : A} {end : ℕ} → read v end ≡ r → faultOf r .number ≡ 0
+    read-none r e = sym (ap (λ r. faultOf r .number) e)
+
+  -- `body_fault`
   pub fault-number : faultOf (eventAt s) .number ≤ 6
   fault-number = number-small (eventAt s) event-inside
 
@@ -302,3 +311,10 @@ module _ (s : List ℕ) where
       let t = then-read (bodyAt s) (λ e end. cond (ltb end (length s)) (fault trailing end) (read e end)) i in
       let a = not-trailing (ltb (t .place) (length s)) (t .value) e (t .place) end refl (t .rest) in
       omega (arith, a, event-inside .ends e end i)
+
+  -- 0 is given exactly where the body is read whole
+  pub zero-whole : faultOf (eventAt s) .number ≡ 0 → (e : Event) × (read e (length s) ≡ eventAt s)
+  zero-whole z = let x = none-read (eventAt s) event-inside z in (x .0, ap (read (x .0)) (sym (read-whole (x .0) _ (x .1))) ∙ x .1)
+
+  pub whole-zero : (e : Event) (end : ℕ) → read e end ≡ eventAt s → faultOf (eventAt s) .number ≡ 0
+  whole-zero e end i = read-none (eventAt s) i

@@ -3,8 +3,8 @@
 --     event-sound, body-sound           an event, and a body
 use mathlib.Core.Path.{_≡_, refl, sym, ap, subst, _∙_}
 use mathlib.Core.Bool.{Bool, true, false, not}
-use mathlib.Core.List.{List, [], _∷_, _++_, map}
-use Prim.Native.Nat.{ℕ, _+_, _-_, _≤_, _<_}
+use mathlib.Core.List.{List, [], _++_, map}
+use Prim.Native.Nat.{ℕ, _-_, _≤_, _<_}
 use native.Mathlib.Omega.{arith}
 use lib.Dec.{leb}
 use lib.ListN.{length, getD, take, replicate, length-map}
@@ -21,7 +21,7 @@ use Rattle.records.proofs.Rooms.{padded-take}
 use Rattle.input.specs.declared.Input.{Input}
 use Rattle.machine.specs.declared.calls.Beside.{Beside}
 use Rattle.standing.specs.Lists.{_and_, _or_, all, every, everyAt}
-use Rattle.standing.specs.Standing.{fits, zero?, emptyAddr, emptyHint, formed, addressesStand}
+use Rattle.standing.specs.Standing.{zero?, emptyAddr, emptyHint, formed, addressesStand}
 use Rattle.standing.specs.Sound.{hintsSound, nameSound, echSound, sealed, servicesSound, sound}
 use Rattle.parts.specs.Reading.{read}
 use Rattle.parts.specs.Items.{listed}
@@ -41,7 +41,7 @@ use Rattle.bodies.specs.Told.{Told, call, fed, inputOf, besideOf, toldBy, readB
 use Rattle.bodies.specs.declared.Event.{Event}
 use Rattle.bodies.specs.declared.Event.the-variants as event
 use Rattle.parts.specs.Written.{All}
-use Rattle.written.proofs.Tests.{both-hold, or-left, or-right, all-none, all-more, every-map, all-any, padded-length, padded-past, padded-every, at-zeros, at-map, at-pairs}
+use Rattle.written.proofs.Tests.{both-hold, or-left, or-right, all-none, all-more, every-map, all-any, map-twice, padded-length, padded-every, padded-fits, at-zeros, at-map, at-pairs}
 use Rattle.written.proofs.Heard.{Heard, event-heard, four-formed, NameHeard, offer-heard}
 
 fed-sound : (i : Input) (b : Beside) → sound i b ≡ true → (j : Input) (c : Beside) → fed i b ≡ fed j c → sound j c ≡ true
@@ -63,13 +63,6 @@ unfolding all _and_
 no-addr-formed Https = refl
 no-addr-formed Aaaa = refl
 no-addr-formed A = refl
-
--- a list in its room fits
-padded-fits : {A : Type 0} (m : ℕ) (z : A) (p : A → Bool) (l : List A) (n : ℕ) → length l ≡ n → n ≤ m → p z ≡ true → fits m p n (padded m z l) ≡ true
-unfolding fits
-padded-fits m z p l n e h k =
-    all-more _ _ (eq-eqb (length (padded m z l)) m (padded-length m z l (omega (arith, e, h))))
-    (all-more _ _ (le-leb n m h) (all-more _ _ (padded-past m z p l n e k) all-none))
 
 -- addresses in their room
 pub addresses-sound : (k : Kind) (l : List Addr) (n : ℕ) → length l ≡ n → n ≤ 8 → All (λ a. formed k a ≡ true) l → addressesStand n k (record { list = padded 8 noAddr l }) ≡ true
@@ -105,10 +98,6 @@ no-ech-in = refl
 
 no-ech-sound : (there : Bool) → echSound there noEch ≡ true
 no-ech-sound there = subst (λ e. echSound there e ≡ true) no-ech-in (ech-sound there [] (omega arith) (or-right there true refl))
-
-map-twice : {A B C : Type 0} (f : B → C) (g : A → B) (l : List A) → map f (map g l) ≡ map (λ a. f (g a)) l
-map-twice f g [] = refl
-map-twice f g (a ∷ l) = ap (λ t. f (g a) ∷ t) (map-twice f g l)
 
 module _ (s : List ℕ) where
   sealed-sound : (e : EchSpan) → echSound (hasEch (sealedAt e)) (echFrom s e) ≡ true

@@ -1,8 +1,8 @@
 -- Tests of lists in their rooms: what it takes to see that a value which was read is in form.
 --     both-hold, or-left, or-right, all-none, all-more   tests together
 --     every-zeros, every-front, every-map                a test of each member
---     at-zeros, at-map, at-pairs                         a test of each member at its place
---     padded-length, padded-past                         a list in its room
+--     at-zeros, at-shift, at-map, at-pairs               a test of each member at its place
+--     padded-length, padded-past, padded-fits            a list in its room
 use mathlib.Core.Path.{_≡_, refl, sym, ap, _∙_}
 use mathlib.Core.Bool.{Bool, true, false}
 use mathlib.Core.List.{List, [], _∷_, _++_, map}
@@ -10,8 +10,10 @@ use Prim.Native.Nat.{ℕ, zero, suc, _+_, _-_, _≤_, _<_}
 use native.Mathlib.Omega.{arith}
 use lib.ListN.{length, getD, drop, replicate, length-append, length-replicate}
 use lib.Seq.{drop-at}
+use borrow.Author.Tests.{le-leb, eq-eqb}
 use Rattle.records.specs.Lists.{padded}
 use Rattle.standing.specs.Lists.{_and_, _or_, all, every, everyAt}
+use Rattle.standing.specs.Standing.{fits}
 use Rattle.parts.specs.Written.{All}
 
 pub both-hold : (a b : Bool) → a ≡ true → b ≡ true → (a and b) ≡ true
@@ -57,6 +59,10 @@ unfolding All
 all-any Q h [] = tt
 all-any Q h (x ∷ l) = (h x, all-any Q h l)
 
+pub map-twice : {A B C : Type 0} (f : B → C) (g : A → B) (l : List A) → map f (map g l) ≡ map (λ a. f (g a)) l
+map-twice f g [] = refl
+map-twice f g (a ∷ l) = ap (λ t. f (g a) ∷ t) (map-twice f g l)
+
 module _ {A : Type 0} (m : ℕ) (z : A) where
   pub padded-length : (l : List A) → length l ≤ m → length (padded m z l) ≡ m
   unfolding padded
@@ -73,13 +79,20 @@ module _ {A : Type 0} (m : ℕ) (z : A) where
   unfolding padded
   padded-every p l ok h = every-front p l (replicate (m - length l) z) ok (every-zeros p z h (m - length l))
 
+-- a list in its room fits
+pub padded-fits : {A : Type 0} (m : ℕ) (z : A) (p : A → Bool) (l : List A) (n : ℕ) → length l ≡ n → n ≤ m → p z ≡ true → fits m p n (padded m z l) ≡ true
+unfolding fits
+padded-fits m z p l n e h k =
+    all-more _ _ (eq-eqb (length (padded m z l)) m (padded-length m z l (omega (arith, e, h))))
+    (all-more _ _ (le-leb n m h) (all-more _ _ (padded-past m z p l n e k) all-none))
+
 module _ {A : Type 0} where
   pub at-zeros : (p : ℕ → A → Bool) (z : A) (n : ℕ) → ((j : ℕ) → n ≤ j → p j z ≡ true) → (k i : ℕ) → n ≤ i → everyAt p i (replicate k z) ≡ true
   unfolding everyAt
   at-zeros p z n h zero i l = refl
   at-zeros p z n h (suc k) i l = both-hold (p i z) (everyAt p (suc i) (replicate k z)) (h i l) (at-zeros p z n h k (suc i) (omega arith))
 
-  at-shift : (p : ℕ → A → Bool) (i : ℕ) (l : List A) → everyAt (λ j x. p (suc j) x) i l ≡ everyAt p (suc i) l
+  pub at-shift : (p : ℕ → A → Bool) (i : ℕ) (l : List A) → everyAt (λ j x. p (suc j) x) i l ≡ everyAt p (suc i) l
   unfolding everyAt
   at-shift p i [] = refl
   at-shift p i (x ∷ l) = ap (λ t. p (suc i) x and t) (at-shift p (suc i) l)

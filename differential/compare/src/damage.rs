@@ -124,6 +124,17 @@ pub fn rooms(rng: &mut Rng, tape: &[u8], needed: usize, most: usize) -> Vec<Case
     sizes.into_iter().map(|room| Case { tape: tape.to_vec(), room }).collect()
 }
 
+/// The same tapes, one in four of them with an answer buffer of a random size.
+pub fn in_any_room(rng: &mut Rng, mut cases: Vec<Case>) -> Vec<Case> {
+    for case in &mut cases {
+        if rng.chance(25) {
+            let most = rng.pick(&[16, 64, 256, 1024, 8192]);
+            case.room = rng.below(most);
+        }
+    }
+    cases
+}
+
 /// Bytes of no meaning, plain or behind a sound configuration.
 pub fn arbitrary(rng: &mut Rng, configuration: &[u8]) -> Case {
     let mut tape = Vec::new();

@@ -1,12 +1,15 @@
 //! Demand 3 by simulation on the model: asks, the end after the last input, Waiting, the last sentence.
 //! What is demanded is counted here from the answers alone; only the listing is the model's.
+//! A program under test replays the tapes of all that is simulated, and what it answers is counted too.
 
 use crate::book::Book;
 use crate::directed;
 use crate::play::{ask, Player};
+use crate::plug::{show, BATCH, SHOWN};
 use crate::read::{answer, Answer, Reader};
 use crate::rng::Rng;
-use crate::write::{Body, Configuration, Event, History, Host};
+use crate::subject::{Case, Model, Subject};
+use crate::write::{frame, Body, Configuration, Event, History, Host};
 use model::Machine;
 
 pub const MOST_ASKS: u64 = 95;
@@ -27,12 +30,75 @@ pub struct Maxima {
     /// Quiet runs left where a timer would end off the clock.
     pub off: u64,
     pub wrong: Vec<String>,
+    /// Simulated, and not yet replayed.
+    tapes: Vec<Tape>,
 }
 
-/// A machine, the host's book of it, and which records hold an address.
+/// The tape of a simulated history; a quiet one ends with the calls of a host that calls as each timer ends.
+struct Tape {
+    case: Case,
+    quiet: bool,
+}
+
+/// A program that replays the tapes, and what its own answers show.
+struct Replays {
+    program: Box<dyn Subject>,
+    tapes: u64,
+    calls: u64,
+    asks: u64,
+    end: u64,
+    wrong: u64,
+}
+
+impl Replays {
+    fn replay(&mut self, tapes: &[Tape]) {
+        let cases: Vec<Case> = tapes.iter().map(|tape| tape.case.clone()).collect();
+        let found = self.program.run(&cases);
+        for (tape, found) in tapes.iter().zip(found) {
+            self.tapes += 1;
+            match found {
+                Ok(outcome) if outcome == Model::outcome(&tape.case) => {
+                    self.calls += outcome.calls;
+                    self.hear(&outcome.answers, tape.quiet);
+                }
+                _ => {
+                    self.wrong += 1;
+                    if self.wrong <= SHOWN {
+                        show(self.program.as_mut(), &tape.case);
+                    }
+                }
+            }
+        }
+    }
+
+    /// Counts the asks, and for a quiet tape the calls after the last input up to the end.
+    fn hear(&mut self, answers: &[u8], quiet: bool) {
+        let mut reader = Reader::new(answers);
+        let (mut asks, mut calls, mut ended) = (0, 0, false);
+        while let Some(heard) = answer(&mut reader) {
+            asks += u64::from(heard.is_ask());
+            calls = if matches!(heard, Answer::Input(_)) { 0 } else { calls + 1 };
+            ended = heard.is_end();
+        }
+        self.asks = self.asks.max(asks);
+        if quiet && ended {
+            self.end = self.end.max(calls);
+        }
+    }
+
+    fn print(&self) {
+        println!(
+            "the program: {} tapes, {} calls, {} disagreements; most asks {}, latest end call {}",
+            self.tapes, self.calls, self.wrong, self.asks, self.end
+        );
+    }
+}
+
+/// A machine, its tape so far, the host's book of it, and which records hold an address.
 #[derive(Clone)]
 struct Sitting {
     machine: Machine,
+    tape: Vec<u8>,
     book: Book,
     /// Kind and name of each record answered, and whether its answer carries an address.
     held: Vec<(u64, Vec<u8>, bool)>,
@@ -45,6 +111,7 @@ impl Sitting {
     fn new(configuration: &Configuration) -> Option<Sitting> {
         Some(Sitting {
             machine: Machine::new(&configuration.body()).ok()?,
+            tape: History::new(configuration.clone()).tape(),
             book: Book::default(),
             held: Vec::new(),
             by_address: !matches!(configuration.host, Host::Name(_)),
@@ -63,7 +130,9 @@ impl Sitting {
 
     /// An event's answer, with every claim that can be tested at it.
     fn step(&mut self, event: &Event, maxima: &mut Maxima) -> Vec<u8> {
-        let bytes = ask(&mut self.machine, event.moment, &event.body.bytes());
+        let body = event.body.bytes();
+        let bytes = ask(&mut self.machine, event.moment, &body);
+        frame(&mut self.tape, event.moment, &body);
         self.book.hear(event, &bytes);
         let heard = answer(&mut Reader::new(&bytes));
         if heard == Some(Answer::Input(0)) {
@@ -122,8 +191,13 @@ impl Sitting {
     }
 
     /// No input any more: the host calls at once, and exactly as each timer ends.
-    fn quiet(&mut self, mut now: u64, maxima: &mut Maxima) {
+    fn quiet(mut self, now: u64, maxima: &mut Maxima) {
         maxima.quiet += 1;
+        self.calls(now, maxima);
+        maxima.tapes.push(Tape { case: Case::new(self.tape), quiet: true });
+    }
+
+    fn calls(&mut self, mut now: u64, maxima: &mut Maxima) {
         for call in 1..=2 * MOST_CALLS {
             let event = Event { moment: now, body: Body::Call };
             let bytes = self.step(&event, maxima);
@@ -135,7 +209,7 @@ impl Sitting {
                         return;
                     }
                 },
-                Some(Answer::Succeeded | Answer::Failed(_) | Answer::Waiting | Answer::Full(_)) => {
+                Some(heard) if heard.is_end() => {
                     maxima.calls = maxima.calls.max(call);
                     if call > MOST_CALLS {
                         maxima.wrong.push(format!("the end came at call {call}"));
@@ -149,9 +223,11 @@ impl Sitting {
     }
 }
 
-/// Simulates, and prints the maxima; true if every claim held.
-pub fn run(histories: u64, seed: u64) -> bool {
+/// Simulates, and prints the maxima; true if every claim held, and the program answered as the model did.
+pub fn run(histories: u64, seed: u64, program: Option<Box<dyn Subject>>) -> bool {
     let mut maxima = Maxima::default();
+    let mut replays =
+        program.map(|program| Replays { program, tapes: 0, calls: 0, asks: 0, end: 0, wrong: 0 });
     for history in [directed::most_asks(), directed::longest(), directed::longest_quiet()] {
         told(&history, &mut maxima);
     }
@@ -163,9 +239,22 @@ pub fn run(histories: u64, seed: u64) -> bool {
             println!("history {number} of seed {seed}");
             break;
         }
+        if maxima.tapes.len() >= BATCH {
+            replay(&mut replays, &mut maxima.tapes);
+        }
     }
+    replay(&mut replays, &mut maxima.tapes);
     maxima.print();
-    maxima.wrong.is_empty()
+    replays.iter().for_each(Replays::print);
+    maxima.wrong.is_empty() && replays.is_none_or(|replays| replays.wrong == 0)
+}
+
+/// Empties the list of tapes, which the program replays, if there is one.
+fn replay(replays: &mut Option<Replays>, tapes: &mut Vec<Tape>) {
+    let tapes = std::mem::take(tapes);
+    if let Some(replays) = replays {
+        replays.replay(&tapes);
+    }
 }
 
 /// A history written before: each of its inputs is once the last.
@@ -180,6 +269,7 @@ fn told(history: &History, maxima: &mut Maxima) {
             sitting.clone().quiet(event.moment, maxima);
         }
     }
+    maxima.tapes.push(Tape { case: Case::new(sitting.tape), quiet: false });
 }
 
 fn played(player: &mut Player, maxima: &mut Maxima) {
@@ -196,6 +286,7 @@ fn played(player: &mut Player, maxima: &mut Maxima) {
             sitting.clone().quiet(event.moment, maxima);
         }
     }
+    maxima.tapes.push(Tape { case: Case::new(sitting.tape), quiet: false });
 }
 
 impl Maxima {

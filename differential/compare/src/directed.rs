@@ -1,5 +1,6 @@
 //! Tapes written for a purpose: each rule, refusal, difference and deep state of document 01.
 
+use crate::race;
 use crate::write::{
     frame, number, Alternative, Body, Configuration, History, Host, Service, V4, V6,
 };
@@ -153,6 +154,7 @@ pub fn entries() -> Vec<Entry> {
 fn known(shelf: &mut Shelf) {
     let example = unhex(EXAMPLE);
     shelf.put("example", "the whole tape of document 01", example.clone());
+    shelf.history("race", "a whole race: ECH and hints, a retry, a cancel, a win", race::history());
     shelf.put("empty", "an empty tape is Cut", Vec::new());
     for (room, tag) in [(0, "0"), (11, "11"), (12, "12"), (18, "18"), (19, "19"), (20, "20")] {
         shelf.room(

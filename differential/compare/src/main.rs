@@ -2,13 +2,17 @@
 
 use compare::plug::Amounts;
 use compare::subject::{Case, Model, Program, Subject};
-use compare::{demand, plug, stored, words};
-use std::io::Read;
+use compare::tally::Refusals;
+use compare::{delays, demand, directed, plug, stored, tapes, words};
+use std::io::{Read, Write};
 use std::process::ExitCode;
 
 const USAGE: &str = "usage: compare stored [PROGRAM ARGUMENTS..]                          the stored answers
        compare plug HISTORIES DAMAGED ARBITRARY SEED PROGRAM [ARGUMENTS..]   a program against the model
-       compare demand HISTORIES SEED                                    demand 3 by simulation
+       compare delays COUNT SEED PROGRAM [ARGUMENTS..]                       its attempt delays against the model's
+       compare demand HISTORIES SEED [PROGRAM ARGUMENTS..]              demand 3 by simulation
+       compare tape NAME                                                a tape that is written for a purpose, as bytes
+       compare tapes COUNT SEED FOLDER                                  random tapes and the model's answers, as files
        compare words                                                    the tape on standard input, in words";
 
 type Done = Result<bool, Box<dyn std::error::Error>>;
@@ -21,7 +25,12 @@ fn main() -> ExitCode {
         ["plug", histories, damaged, arbitrary, seed, ref program @ ..] if !program.is_empty() => {
             plugged(&[histories, damaged, arbitrary, seed], program)
         }
-        ["demand", histories, seed] => demanded(histories, seed),
+        ["delays", count, seed, ref program @ ..] if !program.is_empty() => {
+            delayed(count, seed, program)
+        }
+        ["demand", histories, seed, ref program @ ..] => demanded(histories, seed, program),
+        ["tape", name] => written(name),
+        ["tapes", count, seed, folder] => kept(count, seed, folder),
         ["words"] => in_words(),
         _ => Err(USAGE.into()),
     };
@@ -49,6 +58,11 @@ fn stored_answers(program: &[&str]) -> Done {
         println!("--- disagreement\n{first}");
     }
     println!("stored answers: {} tapes, {wrong} disagreements", all.len());
+    if wrong == 0 && !program.is_empty() {
+        let mut refusals = Refusals::default();
+        all.iter().for_each(|stored| refusals.add(&stored.outcome));
+        refusals.print();
+    }
     Ok(wrong == 0)
 }
 
@@ -62,8 +76,25 @@ fn plugged(numbers: &[&str; 4], program: &[&str]) -> Done {
     Ok(plug::run(subject(program).as_mut(), &all, &amounts, numbers[3].parse()?))
 }
 
-fn demanded(histories: &str, seed: &str) -> Done {
-    Ok(demand::run(histories.parse()?, seed.parse()?))
+fn delayed(count: &str, seed: &str, program: &[&str]) -> Done {
+    Ok(delays::run(count.parse()?, seed.parse()?, program)?)
+}
+
+fn demanded(histories: &str, seed: &str, words: &[&str]) -> Done {
+    let program = (!words.is_empty()).then(|| subject(words));
+    Ok(demand::run(histories.parse()?, seed.parse()?, program))
+}
+
+fn written(name: &str) -> Done {
+    let entry = directed::entries().into_iter().find(|entry| entry.name == name);
+    let entry = entry.ok_or_else(|| format!("no tape of the name {name}"))?;
+    std::io::stdout().write_all(&entry.tape)?;
+    Ok(true)
+}
+
+fn kept(count: &str, seed: &str, folder: &str) -> Done {
+    tapes::write(count.parse()?, seed.parse()?, folder.as_ref())?;
+    Ok(true)
 }
 
 fn in_words() -> Done {

@@ -8,19 +8,20 @@ use crate::rng::Rng;
 use crate::shrink;
 use crate::stored::Stored;
 use crate::subject::{Case, Model, Subject};
-use crate::tally::Tally;
+use crate::tally::{Refusals, Tally};
 use crate::write::History;
 
-/// Cases handed to the program at a time.
-const BATCH: usize = 2000;
+/// Cases handed to a program at a time.
+pub const BATCH: usize = 2000;
 /// Disagreements that are shrunk and printed; the rest are counted.
-const SHOWN: u64 = 2;
+pub const SHOWN: u64 = 2;
 
 struct Plug<'a> {
     program: &'a mut dyn Subject,
     waiting: Vec<Case>,
     cases: u64,
     wrong: u64,
+    refusals: Refusals,
 }
 
 impl Plug<'_> {
@@ -42,32 +43,34 @@ impl Plug<'_> {
         self.cases += batch.len() as u64;
         let found = self.program.run(batch);
         for (case, found) in batch.iter().zip(found) {
+            if let Ok(found) = &found {
+                self.refusals.add(found);
+            }
             if found != Ok(Model::outcome(case)) {
                 self.wrong += 1;
                 if self.wrong <= SHOWN {
-                    self.show(case);
+                    show(self.program, case);
                 }
             }
         }
-    }
-
-    /// Takes bytes away while the two still differ, and prints what is left.
-    fn show(&mut self, case: &Case) {
-        let differs = |tape: &[u8], program: &mut dyn Subject| {
-            let case = Case { tape: tape.to_vec(), room: case.room };
-            program.one(&case) != Ok(Model::outcome(&case))
-        };
-        let small = shrink::bytes(&case.tape, &mut |tape| differs(tape, self.program));
-        let small = Case { tape: small, room: case.room };
-        let found = self.program.one(&small);
-        println!("--- disagreement, answer buffer of {} bytes", small.room);
-        println!("{}", disagreement(&small.tape, &Model::outcome(&small), &found));
     }
 
     fn report(&mut self, what: &str) {
         self.flush();
         println!("{what}: {} tapes, {} disagreements", self.cases, self.wrong);
     }
+}
+
+/// Takes bytes away while the program and the model still differ, and prints what is left.
+pub fn show(program: &mut dyn Subject, case: &Case) {
+    let small = shrink::bytes(&case.tape, &mut |tape| {
+        let case = Case { tape: tape.to_vec(), room: case.room };
+        program.one(&case) != Ok(Model::outcome(&case))
+    });
+    let small = Case { tape: small, room: case.room };
+    let found = program.one(&small);
+    println!("--- disagreement, answer buffer of {} bytes", small.room);
+    println!("{}", disagreement(&small.tape, &Model::outcome(&small), &found));
 }
 
 /// How much of each is tried.
@@ -80,7 +83,8 @@ pub struct Amounts {
 
 /// True if the program says what the model says of every tape.
 pub fn run(program: &mut dyn Subject, stored: &[Stored], amounts: &Amounts, seed: u64) -> bool {
-    let mut plug = Plug { program, waiting: Vec::new(), cases: 0, wrong: 0 };
+    let refusals = Refusals::default();
+    let mut plug = Plug { program, waiting: Vec::new(), cases: 0, wrong: 0, refusals };
     let mut rng = Rng::new(seed);
     let mut tally = Tally::default();
     let mut bases: Vec<Vec<u8>> = directed::entries().into_iter().map(|e| e.tape).collect();
@@ -107,8 +111,10 @@ pub fn run(program: &mut dyn Subject, stored: &[Stored], amounts: &Amounts, seed
     plug.report("and random histories");
     for tape in &bases {
         let needed = Model::outcome(&Case::new(tape.clone())).answers.len();
-        plug.add(damage::variants(&mut rng, tape, amounts.damaged));
-        plug.add(damage::bodies(&mut rng, tape, amounts.damaged / 2));
+        let variants = damage::variants(&mut rng, tape, amounts.damaged);
+        plug.add(damage::in_any_room(&mut rng, variants));
+        let bodies = damage::bodies(&mut rng, tape, amounts.damaged / 2);
+        plug.add(damage::in_any_room(&mut rng, bodies));
         plug.add(damage::rooms(&mut rng, tape, needed, amounts.damaged / 8));
     }
     plug.report("and damaged ones");
@@ -118,5 +124,6 @@ pub fn run(program: &mut dyn Subject, stored: &[Stored], amounts: &Amounts, seed
     }
     plug.report("and arbitrary bytes");
     tally.print();
+    plug.refusals.print();
     plug.wrong == 0
 }

@@ -88,6 +88,18 @@ pub enum Answer {
     Input(u64),
 }
 
+impl Answer {
+    /// What demand 3 counts: queries, refreshes among them, attempts and cancels.
+    pub fn is_ask(&self) -> bool {
+        matches!(self, Answer::Query { .. } | Answer::Attempt { .. } | Answer::Cancel(_))
+    }
+
+    /// What demand 3 calls an end.
+    pub fn is_end(&self) -> bool {
+        matches!(self, Answer::Succeeded | Answer::Failed(_) | Answer::Waiting | Answer::Full(_))
+    }
+}
+
 /// The answer at the head of some bytes.
 pub fn answer(reader: &mut Reader) -> Option<Answer> {
     Some(match reader.number()? {

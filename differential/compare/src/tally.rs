@@ -2,6 +2,8 @@
 
 use crate::book::Depth;
 use crate::play::{Shape, SHAPES};
+use crate::read::{answer, Answer, Reader};
+use crate::subject::Outcome;
 
 #[derive(Default)]
 pub struct Tally {
@@ -73,5 +75,36 @@ impl Tally {
         let refused: Vec<String> = refused.map(|(i, n)| format!("{i}: {n}")).collect();
         println!("inputs refused, by number: {}", refused.join(", "));
         println!("most asks (queries, attempts, cancels) in one history: {}", self.asks);
+    }
+}
+
+/// How often a program gave each refusal: as a status, as tape check's number, in an answer.
+#[derive(Default)]
+pub struct Refusals {
+    given: [u64; 14],
+}
+
+impl Refusals {
+    pub fn add(&mut self, outcome: &Outcome) {
+        self.count(outcome.status);
+        self.count(outcome.check);
+        let mut reader = Reader::new(&outcome.answers);
+        while let Some(answer) = answer(&mut reader) {
+            if let Answer::Input(number) = answer {
+                self.count(number);
+            }
+        }
+    }
+
+    fn count(&mut self, number: u64) {
+        if let Some(count) = self.given.get_mut(number as usize) {
+            *count += 1;
+        }
+    }
+
+    pub fn print(&self) {
+        let given: Vec<String> =
+            self.given.iter().enumerate().skip(1).map(|(i, n)| format!("{i}: {n}")).collect();
+        println!("refusals given by the program, by number: {}", given.join(", "));
     }
 }

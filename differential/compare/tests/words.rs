@@ -1,10 +1,12 @@
 //! The printer of words, the shrinker and the interface for programs.
 
+use compare::demand;
 use compare::directed::{entries, unhex, EXAMPLE};
 use compare::plug::{run, Amounts};
+use compare::race;
 use compare::shrink::{bytes, shrink};
 use compare::subject::{Case, Model, Outcome, Program, Subject};
-use compare::words::tape;
+use compare::words::{answers, tape};
 use compare::write::{Body, Configuration, History};
 
 #[test]
@@ -24,6 +26,32 @@ at 100: call
     -> Failed: connection
 ";
     assert_eq!(tape(&example, &outcome.answers), expected);
+}
+
+#[test]
+fn the_race_in_words() {
+    let outcome = Model::outcome(&Case::new(race::history().tape()));
+    let old = "ECH 00 3E FE 0D 00 3A 1F 00 .. (64 bytes)";
+    let new = "ECH 00 3E FE 0D 00 3A 5E 00 .. (64 bytes)";
+    let mut said = answers(&outcome.answers);
+    said.retain(|words| words != "accepted");
+    let expected = [
+        "query 0: HTTPS of \"www.example.org\" (stale allowed)".to_string(),
+        "query 1: AAAA of \"www.example.org\" (stale allowed)".to_string(),
+        "query 2: A of \"www.example.org\" (stale allowed)".to_string(),
+        "Waiting".to_string(),
+        "timer of 49965000 ns".to_string(),
+        format!("attempt 3: [2001:db8:50::80]:443 over H3, {old}"),
+        "timer of 250000000 ns".to_string(),
+        "timer of 246000000 ns".to_string(),
+        format!("attempt 4: 192.0.2.80:443 over H3, {old}"),
+        "timer of 250000000 ns".to_string(),
+        format!("ECH retry, attempt 5: 192.0.2.80:443 over H3, {new}"),
+        "timer of 250000000 ns".to_string(),
+        "cancel attempt 3".to_string(),
+        "Succeeded".to_string(),
+    ];
+    assert_eq!(said, expected);
 }
 
 #[test]
@@ -61,6 +89,14 @@ const FEW: Amounts = Amounts { histories: 20, damaged: 8, arbitrary: 50 };
 fn a_wrong_program_is_caught() {
     let mut wrong = program(env!("CARGO_BIN_EXE_wrong"), &[]);
     assert!(!run(&mut wrong, &[], &FEW, 1));
+}
+
+#[test]
+fn a_wrong_program_is_caught_by_the_tapes_of_demand_3() {
+    // One line, whatever it reads.
+    let wrong = program("sh", &["-c", "cat >/dev/null; echo 0 0 0 0 0"]);
+    assert!(!demand::run(1, 1, Some(Box::new(wrong))));
+    assert!(demand::run(1, 1, Some(Box::new(Model))));
 }
 
 #[test]

@@ -17,7 +17,8 @@ use std::process::ExitCode;
 const USAGE: &str = "usage: judge run HISTORIES SEED [PROGRAM ARGUMENTS..]
        judge listing STATES SEED    the whole listing: the original's, the model's and the proved one's
        judge store FOLDER SUMS      makes the stored answers
-       judge spoils FOLDER [NAME]   spoils the model under FOLDER (differential/), one place at a time
+       judge spoils FOLDER SLIP [PROGRAM ARGUMENTS..]
+                                    spoils the model under FOLDER (differential/) in that place, or `all`, one at a time
        judge show [BYTES..]         one tape, in hexadecimal or on standard input";
 
 fn main() -> ExitCode {
@@ -29,8 +30,7 @@ fn main() -> ExitCode {
         ["listing", states, seed] => listed(states, seed),
         ["store", folder, sums] => store(folder, sums),
         ["show", ref bytes @ ..] => show(bytes),
-        ["spoils", folder] => spoils(folder, None),
-        ["spoils", folder, name] => spoils(folder, Some(name)),
+        ["spoils", folder, slip, ref program @ ..] => spoils(folder, slip, program),
         _ => Err(USAGE.into()),
     };
     match done {
@@ -45,10 +45,15 @@ fn main() -> ExitCode {
 
 type Done = Result<bool, Box<dyn std::error::Error>>;
 
+fn named(words: &[&str]) -> Option<Program> {
+    let words: Vec<String> = words.iter().map(|word| word.to_string()).collect();
+    (!words.is_empty()).then_some(Program { words })
+}
+
 fn run(count: &str, seed: &str, program: &[&str]) -> Done {
-    let mut subject: Box<dyn Subject> = match program {
-        [] => Box::new(Model),
-        words => Box::new(Program { words: words.iter().map(|w| w.to_string()).collect() }),
+    let mut subject: Box<dyn Subject> = match named(program) {
+        None => Box::new(Model),
+        Some(program) => Box::new(program),
     };
     Ok(run::run(subject.as_mut(), count.parse()?, seed.parse()?))
 }
@@ -71,7 +76,8 @@ fn show(bytes: &[&str]) -> Done {
     Ok(true)
 }
 
-fn spoils(folder: &str, only: Option<&str>) -> Done {
+fn spoils(folder: &str, slip: &str, program: &[&str]) -> Done {
     let folder = std::fs::canonicalize(folder)?;
-    spoils::run(&folder.join("spoils.txt"), &folder, only)
+    let only = (slip != "all").then_some(slip);
+    spoils::run(&folder.join("spoils.txt"), &folder, only, named(program))
 }

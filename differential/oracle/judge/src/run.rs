@@ -12,8 +12,8 @@ use compare::write::History;
 use judge::adapter::{Exceptions, Oracle};
 use std::time::Instant;
 
-/// Histories handed to the subject at a time.
-const BATCH: u64 = 200;
+/// Histories handed to the subject at a time: many, since a program is started for each batch.
+const BATCH: u64 = 2000;
 /// Of so many histories one has its listings compared after every event.
 const LISTED: u64 = 8;
 /// Disagreements that are shrunk and printed; the rest are counted.
@@ -143,8 +143,9 @@ pub fn run(subject: &mut dyn Subject, count: u64, seed: u64) -> bool {
             }
         }
         first = end;
-        if first % 100_000 == 0 {
-            eprintln!("{first} histories, {} s", started.elapsed().as_secs());
+        if first % 10_000 == 0 {
+            let seconds = started.elapsed().as_secs();
+            eprintln!("{first} histories, {} disagreements, {seconds} s", figures.wrong);
         }
     }
     figures.print();

@@ -53,38 +53,60 @@ struct Known {
     excepted: bool,
 }
 
-/// Spoils, builds, compares; prints the table. True if every slip is caught.
-pub fn run(list: &Path, differential: &Path, only: Option<&str>) -> Result<bool, Box<dyn Error>> {
+/// What a spoiled model is held against.
+struct Judges {
+    known: Vec<Known>,
+    stored: Vec<Stored>,
+    /// What a program under test says of all these tapes, if there is one.
+    said: Option<Vec<Result<Outcome, String>>>,
+}
+
+/// How many tapes show a slip, by each judge.
+struct Shown {
+    original: usize,
+    stored: usize,
+    program: usize,
+}
+
+/// Spoils, builds, compares; prints the table. True if every slip is caught, by the program too if there is one.
+pub fn run(
+    list: &Path,
+    differential: &Path,
+    only: Option<&str>,
+    program: Option<Program>,
+) -> Result<bool, Box<dyn Error>> {
     let spoils = read(&fs::read_to_string(list)?)?;
-    let stored = stored::read(&stored::folder())?;
-    let known = known();
+    let judges = Judges::new(program)?;
     let place = differential.join("../target/spoils");
     println!(
         "each spoiled model against {} histories of the original and {} stored tapes",
-        known.len(),
-        stored.len()
+        judges.known.len(),
+        judges.stored.len()
     );
-    println!("{:<28} {:>9} {:>7}  rule", "slip", "original", "stored");
-    let (mut tried, mut missed) = (0, Vec::new());
-    for spoil in &spoils {
-        if only.is_some_and(|only| only != spoil.name) {
-            continue;
-        }
+    println!("{:<28} {:>9} {:>7} {:>8}  rule", "slip", "original", "stored", "program");
+    let (mut tried, mut missed, mut passed) = (0, Vec::new(), Vec::new());
+    for spoil in spoils.iter().filter(|spoil| only.is_none_or(|only| only == spoil.name)) {
         tried += 1;
-        let program = build(spoil, differential, &place)?;
-        let (by_original, by_stored) = judge(&program, &known, &stored);
-        println!("{:<28} {by_original:>9} {by_stored:>7}  {}", spoil.name, spoil.rule);
-        if by_original == 0 && by_stored == 0 {
-            missed.push(spoil.name.clone());
+        let Shown { original, stored, program } =
+            judges.judge(&build(spoil, differential, &place)?);
+        println!("{:<28} {original:>9} {stored:>7} {program:>8}  {}", spoil.name, spoil.rule);
+        if original == 0 && stored == 0 {
+            missed.push(spoil.name.as_str());
+        }
+        if judges.said.is_some() && program == 0 {
+            passed.push(spoil.name.as_str());
         }
     }
-    println!(
-        "{tried} slips, {} caught, {} missed {}",
-        tried - missed.len(),
-        missed.len(),
-        missed.join(" ")
-    );
-    Ok(missed.is_empty())
+    summary("caught", tried, &missed);
+    if judges.said.is_some() {
+        summary("caught with the program as the judge", tried, &passed);
+    }
+    Ok(tried > 0 && missed.is_empty() && passed.is_empty())
+}
+
+fn summary(what: &str, tried: usize, missed: &[&str]) {
+    let caught = tried - missed.len();
+    println!("{tried} slips, {caught} {what}, {} missed {}", missed.len(), missed.join(" "));
 }
 
 fn known() -> Vec<Known> {
@@ -142,14 +164,50 @@ fn build(spoil: &Spoil, differential: &Path, place: &Path) -> Result<PathBuf, Bo
     Ok(place.join("build/release/model"))
 }
 
-/// How many histories of the original and how many stored tapes show the slip.
-fn judge(program: &Path, known: &[Known], stored: &[Stored]) -> (usize, u64) {
-    let mut program = Program { words: vec![program.display().to_string(), "--many".into()] };
-    let cases: Vec<Case> = known.iter().map(|k| k.case.clone()).collect();
-    let found = program.run(&cases);
-    let by_original = known.iter().zip(&found).filter(|(known, found)| shows(known, found)).count();
-    let (by_stored, _) = stored::compare(&mut program, stored);
-    (by_original, by_stored)
+impl Judges {
+    /// Fails if the program doesn't itself say what is known and stored: then it is no judge.
+    fn new(program: Option<Program>) -> Result<Judges, Box<dyn Error>> {
+        let stored = stored::read(&stored::folder())?;
+        let mut judges = Judges { known: known(), stored, said: None };
+        if let Some(mut program) = program {
+            let said = program.run(&judges.cases());
+            let expected = judges.expected();
+            let wrong = said.iter().zip(&expected).filter(|(s, e)| s.as_ref() != Ok(*e)).count();
+            if wrong > 0 {
+                return Err(format!("the program itself differs on {wrong} tapes").into());
+            }
+            judges.said = Some(said);
+        }
+        Ok(judges)
+    }
+
+    /// The tapes of the known histories, then the stored ones.
+    fn cases(&self) -> Vec<Case> {
+        let known = self.known.iter().map(|known| &known.case);
+        known.chain(self.stored.iter().map(|stored| &stored.case)).cloned().collect()
+    }
+
+    fn expected(&self) -> Vec<&Outcome> {
+        let known = self.known.iter().map(|known| &known.outcome);
+        known.chain(self.stored.iter().map(|stored| &stored.outcome)).collect()
+    }
+
+    fn judge(&self, spoiled: &Path) -> Shown {
+        let mut spoiled = Program { words: vec![spoiled.display().to_string(), "--many".into()] };
+        let found = spoiled.run(&self.cases());
+        let (of_known, of_stored) = found.split_at(self.known.len());
+        let said = self.said.iter().flatten();
+        Shown {
+            original: self.known.iter().zip(of_known).filter(|(k, found)| shows(k, found)).count(),
+            stored: self
+                .stored
+                .iter()
+                .zip(of_stored)
+                .filter(|(stored, found)| found.as_ref() != Ok(&stored.outcome))
+                .count(),
+            program: said.zip(&found).filter(|(said, found)| said != found).count(),
+        }
+    }
 }
 
 /// Whether an answer that the original gave itself is missing or another.

@@ -132,7 +132,7 @@ fn header(sums: &str) -> String {
          # document 01's alone (refusals, Full, limits, the differences); the number of answers that the\n\
          # original gave and of those that it can't give; what the tape shows.\n\
          # NAME.result: status, place, written, calls, tape check. The answer buffer has just the bytes of\n\
-         # NAME.answers where the status is 13, and 280,000 bytes elsewhere.\n"
+         # NAME.answers where the status is 13, and 336,434 bytes elsewhere.\n"
 }
 
 /// One tape: what the model says, what the original says, in words.

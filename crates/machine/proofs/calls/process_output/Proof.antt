@@ -1,5 +1,4 @@
 -- `machine::calls::process_output` meets its contract: the wish by way of the survey, what is given for it, and the parts after it.
-use mathlib.Core.Path.{_∙_}
 use Rattle.machine.specs.Output.{wishOf}
 use Rattle.machine.specs.Steps.{turnOf, outputStep}
 use Rattle.machine.proofs.Way.{wish-seen}

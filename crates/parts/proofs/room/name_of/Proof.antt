@@ -1,81 +1,65 @@
 -- `parts::room::name_of` meets its contract.
 use borrow.Author.Needs.{needs}
-use mathlib.Core.Path.{_≡_, refl, sym, ap, _∙_}
-use Prim.Native.Nat.{_+_, _-_, _≤_}
+use mathlib.Core.Path.{_≡_, sym, ap, _∙_}
+use mathlib.Core.Bool.{true}
 use native.Mathlib.Omega.{arith}
-use lib.ListN.{take, drop, replicate, length}
-use lib.Seq.{sets}
+use borrow.Author.Tests.{not-true, not-false}
 use Rattle.records.specs.Lists.{padded}
 use Rattle.records.specs.Names.{noName}
-use borrow.Author.Tests.{not-true, not-false}
-use Rattle.parts.specs.Rooms.{nameIn}
-use Rattle.parts.proofs.Copying.{fits-there, kept-there, kept-none, span-length, copy-more, copy-end}
+use Rattle.parts.specs.Rooms.{fits, nameIn}
+use Rattle.parts.proofs.Copying.{fits-there, kept-none, put-kept}
 use Rattle.parts.proofs.room.name_of.Statement.{statement}
 use Rattle.parts.proofs.room.name_of.Tie as tie
 
-abbrev Inv-loop : tie.InvT-loop
-Inv-loop s n start bytes₀ i₀ bytes i = (i ≤ n) × (sets bytes i (drop i (take n (drop start s))) ≡ sets (replicate 253 0) 0 (take n (drop start s)))
-
-abbrev μ-loop : tie.MeasureT-loop
-μ-loop s n start bytes₀ i₀ bytes i = n - i
-
 -- past the test the bytes lie in the body and fit
-there : (c : tie.Else1 Inv-loop μ-loop) → let a = c .before .before .before .args in (a .b .len ≤ 253) × (a .b .start + a .b .len ≤ length (a .s .now))
-there c = fits-there 253 _ _ (sym (c .before .is-kept .ensures) ∙ not-false (c .before .is-kept .result) (c .if1 .left))
+past : (c : tie.Else1) → let a = c .before .before .before .args in fits 253 (a .s .now) (a .b) ≡ true
+past c = sym (c .before .is-kept .ensures) ∙ not-false (c .before .is-kept .result) (c .if1 .left)
 
-is-kept-requires : tie.Need-is-kept-requires Inv-loop μ-loop
+is-kept-requires : tie.Need-is-kept-requires
 is-kept-requires c κs = search needs
 
-no-name-requires : tie.Need-no-name-requires Inv-loop μ-loop
+no-name-requires : tie.Need-no-name-requires
 no-name-requires c κs = search needs
 
-returns : tie.Need-returns Inv-loop μ-loop
+returns : tie.Need-returns
 unfolding nameIn noName padded
 returns c = c .no-name .ensures ∙ ap nameIn (sym (kept-none 253 _ _ (sym (c .before .before .is-kept .ensures) ∙ not-true (c .before .before .is-kept .result) (c .before .if1 .taken))))
 
-loop-holds : tie.Need-loop-holds Inv-loop μ-loop
-loop-holds c = (omega arith, refl)
+add-end : tie.Need-add-end
+add-end c = omega (arith, fits-there 253 _ _ (past c) .1)
 
-add-q : tie.Need-add-q Inv-loop μ-loop
-add-q c = let t = there (c .before .before) in omega (arith, t .1)
+slice-aggregate-put-bytes : tie.Need-slice-aggregate-put-bytes
+slice-aggregate-put-bytes c = search needs
 
-shared-slice-read-bytes : tie.Need-shared-slice-read-bytes Inv-loop μ-loop
-shared-slice-read-bytes c = let t = there (c .before .before .before) in omega (arith, t .1)
+sub-put-bytes : tie.Need-sub-put-bytes
+sub-put-bytes c = search needs
 
-array-write-bytes : tie.Need-array-write-bytes Inv-loop μ-loop
-array-write-bytes c = let t = there (c .before .before .before) in omega (arith, t .0)
+part-put-bytes-start : tie.Need-part-put-bytes-start
+part-put-bytes-start c = search needs
 
-add-i : tie.Need-add-i Inv-loop μ-loop
-add-i c = search needs
+part-put-bytes-end : tie.Need-part-put-bytes-end
+part-put-bytes-end c = omega (arith, fits-there 253 _ _ (past (c .before)) .1)
 
-loop-less : tie.Need-loop-less Inv-loop μ-loop
-loop-less c = search needs
+put-bytes-requires : tie.Need-put-bytes-requires
+put-bytes-requires c κs = search needs
 
-loop-again : tie.Need-loop-again Inv-loop μ-loop
-loop-again c = let l = c .before .before in
-    (omega arith, copy-more _ _ _ (there (l .before) .1) (l .loop .bytes) (l .loop .i) _ (c .before .loop-test .taken) (l .loop .inv .1))
-
-returns-2 : tie.Need-returns-2 Inv-loop μ-loop
+returns-2 : tie.Need-returns-2
 unfolding nameIn
-returns-2 c = let l = c .before in
-    let t = there (l .before) in
-    let k = sym (l .before .before .is-kept .ensures) ∙ not-false (l .before .before .is-kept .result) (l .before .if1 .left) in
-    rw (kept-there 253 _ _ k, ← copy-end _ _ _ (t .1) 253 (l .loop .bytes) (l .loop .i) (t .0) (c .loop-test .left) (l .loop .inv .1), span-length _ _ _ (t .1))
+returns-2 c =
+    let p = put-kept 253 _ _ (past (c .before .before .before .before)) (c .before .put-bytes .ensures .1) in
+    λ j. record { len = p .0 j; bytes = p .1 j }
 
 pub name-of-spec : {M : Type 1} → statement M
 name-of-spec =
     tie.close
     (tie.spec
-    Inv-loop
-    μ-loop
     is-kept-requires
     no-name-requires
     returns
-    loop-holds
-    add-q
-    shared-slice-read-bytes
-    array-write-bytes
-    add-i
-    loop-less
-    loop-again
+    add-end
+    slice-aggregate-put-bytes
+    sub-put-bytes
+    part-put-bytes-start
+    part-put-bytes-end
+    put-bytes-requires
     returns-2)

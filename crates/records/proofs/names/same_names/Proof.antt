@@ -6,8 +6,7 @@ use native.Mathlib.Omega.{arith}
 use borrow.Author.Needs.{needs}
 use Rattle.records.specs.Names.{sameAt}
 use Rattle.records.specs.Classes.{sameNames}
-use Rattle.records.proofs.Classes.{Classed, classed-none, classed-out, classed-own, classed-here, classed-next, classed-end, empty-out, full-out, same-in, lengths-apart}
-use Rattle.records.proofs.SameName.{same-places}
+use Rattle.records.proofs.Classes.{Classed, classed-none, classed-out, classed-own, classed-here, classed-next, classed-end, names-held}
 use Rattle.records.proofs.names.same_names.Statement.{statement}
 use Rattle.records.proofs.names.same_names.Tie as tie
 
@@ -51,7 +50,7 @@ loop-again : tie.Need-loop-again Inv-loop μ-loop
 loop-again c =
     let n = c .before .before .before in
     let h = n .before .before .before in
-    classed-out 14 _ _ _ _ (h .loop .inv) (omega arith) (empty-out _ _ (omega arith) (sym (n .name-len .ensures) ∙ c .if1 .taken))
+    classed-out 14 _ _ _ _ (h .loop .inv) (omega arith) (names-held _ .empty _ (omega arith) (sym (n .name-len .ensures) ∙ c .if1 .taken))
 
 cast-list : tie.Need-cast-list Inv-loop μ-loop
 cast-list c = search needs
@@ -69,7 +68,7 @@ loop-again-2 : tie.Need-loop-again-2 Inv-loop μ-loop
 loop-again-2 c =
     let n = c .before .before .before .before in
     let h = n .before .before .before in
-    classed-own 14 _ _ _ _ (h .loop .inv) (same-places _) (omega arith) (full-out _ _ (omega arith) (λ e. c .before .if1 .left (n .name-len .ensures ∙ e))) (c .if2 .taken)
+    classed-own 14 _ _ _ _ (h .loop .inv) (names-held _ .table .alike) (omega arith) (names-held _ .full _ (omega arith) (λ e. c .before .if1 .left (n .name-len .ensures ∙ e))) (c .if2 .taken)
 
 mul-a : tie.Need-mul-a Inv-loop μ-loop
 mul-a c = search needs
@@ -103,8 +102,8 @@ loop-again-3 c =
     let f = c .before .before .before .before .before in
     let n = f .before .before .before .before in
     let h = n .before .before .before in
-    classed-here 14 _ _ _ _ (h .loop .inv) (omega arith) (full-out _ _ (omega arith) (λ e. f .before .if1 .left (n .name-len .ensures ∙ e)))
-    (sym (same-in _ _ (omega arith) _ (omega (arith, h .loop .inv .behind))) ∙ (sym (c .before .same-name .ensures) ∙ c .if4 .taken))
+    classed-here 14 _ _ _ _ (h .loop .inv) (omega arith) (names-held _ .full _ (omega arith) (λ e. f .before .if1 .left (n .name-len .ensures ∙ e)))
+    (sym (names-held _ .inside _ (omega arith) _ (omega (arith, h .loop .inv .behind))) ∙ (sym (c .before .same-name .ensures) ∙ c .if4 .taken))
 
 add-q : tie.Need-add-q Inv-loop μ-loop
 add-q c = search needs
@@ -116,7 +115,7 @@ loop-again-4 : tie.Need-loop-again-4 Inv-loop μ-loop
 loop-again-4 c =
     let n = c .before .before .before .before .before in
     let h = n .before .before .before in
-    classed-next 14 _ _ _ _ (h .loop .inv) (omega (arith, h .loop .inv .behind)) (⊎-elim (λ w. sym (same-in _ _ (omega arith) _ (omega (arith, h .loop .inv .behind))) ∙ (sym (w .3 .ensures) ∙ w .4 .left)) (λ w. lengths-apart _ _ (omega arith) _ (omega (arith, h .loop .inv .behind)) (λ e. w .left (n .name-len .ensures ∙ (e ∙ sym (c .before .before .before .name-len2 .ensures))))) (c .if3 .came))
+    classed-next 14 _ _ _ _ (h .loop .inv) (omega (arith, h .loop .inv .behind)) (⊎-elim (λ w. sym (names-held _ .inside _ (omega arith) _ (omega (arith, h .loop .inv .behind))) ∙ (sym (w .3 .ensures) ∙ w .4 .left)) (λ w. names-held _ .apart _ (omega arith) _ (omega (arith, h .loop .inv .behind)) (λ e. w .left (n .name-len .ensures ∙ (e ∙ sym (c .before .before .before .name-len2 .ensures))))) (c .if3 .came))
 
 returns : tie.Need-returns Inv-loop μ-loop
 unfolding sameNames

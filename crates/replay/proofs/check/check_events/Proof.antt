@@ -1,5 +1,5 @@
 -- `replay::check::check_events` meets its contract: each turn of the loop is one event of the check.
-use Prim.Native.Nat.{ℕ, _-_}
+use Prim.Native.Nat.{_-_}
 use mathlib.Core.Path.{_≡_, sym, ap, _∙_}
 use native.Mathlib.Omega.{arith}
 use lib.ListN.{length}

@@ -1,5 +1,4 @@
 -- `replay::check::tape_check` meets its contract: the configuration first, then the events.
-use Prim.Native.Nat.{ℕ}
 use mathlib.Core.Path.{_≡_, sym, ap, _∙_}
 use Rattle.numbers.specs.Got.{got}
 use Rattle.numbers.specs.Shown.{spanShown}

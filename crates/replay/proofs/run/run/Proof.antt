@@ -8,12 +8,12 @@ use Rattle.numbers.specs.Got.{got}
 use Rattle.numbers.specs.Fields.{spanBytes}
 use Rattle.numbers.specs.Put.{putAnswer, putBytes}
 use Rattle.numbers.specs.Shown.{wroteShown}
-use Rattle.starting.specs.Alike.{alikeOf}
+use Rattle.upcoming.specs.Alike.{alikeOf}
 use Rattle.state.specs.State.{made}
 use Rattle.state.specs.declared.Machine.{Machine}
 use Rattle.bodies.specs.Told.{besideOf}
 use Rattle.answers.specs.Answers.{answerBytes}
-use Rattle.replay.specs.declared.reply.Touched.{Touched}
+use Rattle.replies.specs.declared.Touched.{Touched}
 use Rattle.replay.specs.Replay.{Step, stepOf}
 use Rattle.replay.specs.Frames.{Frame, frameAt, frameShown}
 use Rattle.replay.proofs.Framed.{Lies, frame-lies}

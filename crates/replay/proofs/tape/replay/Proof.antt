@@ -1,5 +1,4 @@
 -- `replay::tape::replay` meets its contract, by whether the configuration's frame was read.
-use Prim.Native.Nat.{ℕ}
 use mathlib.Core.Path.{_≡_, refl, sym, ap, _∙_}
 use Rattle.numbers.specs.Got.{got}
 use Rattle.numbers.specs.Shown.{spanShown}

@@ -1,0 +1,41 @@
+-- `replay::reply::queries_after` meets its contract, by who made the change.
+use borrow.Author.Needs.{needs}
+use Rattle.replies.proofs.queries_after.Statement.{statement}
+use Rattle.replies.proofs.queries_after.Tie as tie
+
+enum-told : tie.Need-enum-told
+enum-told c = search needs
+
+enum-known-change : tie.Need-enum-known-change
+enum-known-change c = search needs
+
+queries-called-requires : tie.Need-queries-called-requires
+queries-called-requires c κs = search needs
+
+enum-known-change-2 : tie.Need-enum-known-change-2
+enum-known-change-2 c = search needs
+
+queries-fed-requires : tie.Need-queries-fed-requires
+queries-fed-requires c κs = search needs
+
+returns : tie.Need-returns
+returns c = search needs
+
+returns-2 : tie.Need-returns-2
+returns-2 c = rw (c .before .before .change .given .1) (c .queries-called .ensures)
+
+returns-3 : tie.Need-returns-3
+returns-3 c = rw (c .before .before .change2 .given .1) (c .queries-fed .ensures)
+
+pub queries-after-spec : {M : Type 1} → statement M
+queries-after-spec =
+    tie.close
+    (tie.spec
+    enum-told
+    enum-known-change
+    queries-called-requires
+    enum-known-change-2
+    queries-fed-requires
+    returns
+    returns-2
+    returns-3)

@@ -1,0 +1,5 @@
+pub mod Events
+pub mod Answered
+pub mod Histories
+pub mod Claims
+pub mod Example

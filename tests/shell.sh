@@ -1,0 +1,62 @@
+#!/bin/sh
+# The shell's side: the header, the C entries against the stored answers and the model, an installed copy, writable data, stack, threads.
+# `tests/shell.sh HISTORIES DAMAGED ARBITRARY SEED` compares more tapes with the model (differential/README.md, `compare plug`); without
+# these words, few of them, and under an emulator none.
+set -eu
+cd "$(dirname "$0")/.."
+scratch=$(mktemp -d)
+trap 'rm -rf "$scratch"' EXIT
+
+python3 tests/header.py
+echo '#include "braidhatch.h"' >"$scratch/c.c"
+cp "$scratch/c.c" "$scratch/cpp.cc"
+for cc in cc clang; do
+  if command -v $cc >/dev/null; then
+    $cc -std=c99 -Wall -Wextra -Wpedantic -Werror -Iinclude -fsyntax-only "$scratch/c.c"
+    echo "header: C99 by $cc"
+  fi
+done
+for cxx in c++ clang++; do
+  if command -v $cxx >/dev/null; then
+    $cxx -Wall -Wextra -Wpedantic -Werror -Iinclude -fsyntax-only "$scratch/cpp.cc"
+    echo "header: C++ by $cxx"
+  fi
+done
+
+. tests/c
+tests/archive braidhatch
+tests/sections target/staticlib/libbraidhatch.a
+for program in race entries; do compile $program; done
+for program in stack threads; do compile $program -pthread; done
+
+compare=target/differential/release/compare
+(cd differential && cargo build --release --offline --quiet -p compare)
+amounts=$*
+if [ -z "$amounts" ] && [ -z "$emulator" ]; then
+  amounts='20 2 1000 1'
+fi
+quiet() {
+  "$@" >>"$scratch/compared" || { cat "$scratch/compared"; exit 1; }
+}
+quiet $compare stored $emulator target/host/entries
+if [ -n "$amounts" ]; then
+  quiet $compare plug $amounts $emulator target/host/entries
+fi
+grep -E 'disagreements|^refusals' "$scratch/compared"
+if ! grep -q '^refusals' "$scratch/compared" || grep -q '^refusals.*: 0\(,\|$\)' "$scratch/compared"; then
+  echo "shell: not every refusal from 1 to 13 was given"
+  exit 1
+fi
+$compare delays 100000 1 $emulator target/host/entries --delays
+
+$emulator target/host/race differential/stored/example.tape >"$scratch/race"
+diff tests/race.txt "$scratch/race"
+echo "race: the example in words"
+tests/installed "$compiler" "$emulator"
+
+# The emulator has a word to say of each child that falls.
+$emulator target/host/stack differential/stored/*.tape >"$scratch/stack" 2>"$scratch/falls" || { cat "$scratch/falls"; exit 1; }
+most=$(sed -n 's/^#define BRAIDHATCH_STACK_SIZE \([0-9]*\)$/\1/p' include/braidhatch.h)
+awk -v most="$most" '{ print "stack:", $1, $2, "bytes" } most < $2 || 524288 <= most { wide = 1 } END { exit wide }' "$scratch/stack"
+$emulator target/host/threads 1 differential/stored/*.tape
+echo "shell: passed"
