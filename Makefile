@@ -1,5 +1,5 @@
-# make: proves what the story of a tape rests on and tells a race. make test: the gate. make bench: times, no test. make figures: lines
-# and times of checks.
+# make: proves what the story and the picture of a tape rest on, tells a race and draws it. make test: the gate. make bench: times, no
+# test. make figures: lines, times of checks, the last benchmark.
 # make install: the archive for C, its header, pkg-config file and licence, below PREFIX. make fuzz: tapes against the C entries, no test.
 KIT := rattle-kit-5b logic 064da1ca440f63e7
 PREFIX ?= /usr/local
@@ -9,12 +9,14 @@ VERSION := $(shell sed -n 's/^.define BRAIDHATCH_VERSION \([0-9]*\)$$/\1/p' incl
 .PHONY: show test differential bench figures install fuzz kit
 
 show: kit
-	@echo "Proving the known examples and what the story of a tape rests on: some fifteen minutes the first time, seconds later."
-	@{ rt check known tape story 2>&1; echo $$? >target/show.status; } | tee target/show.log | grep '^rt: '
+	@echo "Proving the known examples and what the story and the picture of a tape rest on: some fifteen minutes the first time, seconds later."
+	@{ rt check known tape story picture 2>&1; echo $$? >target/show.status; } | tee target/show.log | grep --line-buffered '^rt: '
 	@test "$$(cat target/show.status)" = 0 || { cat target/show.log; exit 1; }
 	@echo; echo "The known examples:"; tests/program known
 	@echo; echo "A race, differential/stored/race.tape, told:"; tests/program story <differential/stored/race.tape
-	@echo; echo "Next: tests/program story <TAPE tells another; README.md; docs/AUDIT.md for an auditor's hour; make test for the gate."
+	@tests/program picture <differential/stored/race.tape >target/race.svg
+	@echo; echo "The same race drawn: target/race.svg, for any browser (docs/race.svg is that picture)."
+	@echo; echo "Next: tests/program story <TAPE tells another, tests/program picture <TAPE draws it; README.md; docs/AUDIT.md for an auditor's hour; make test for the gate."
 
 test: kit
 	.ci/run

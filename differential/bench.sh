@@ -1,10 +1,14 @@
 #!/bin/sh
-# Times the proved listing against the original's, on one core where it can be chosen. No test: read the ratios.
+# Times the proved code against the original, races and listings, on one core where it can be chosen. No test: read the ratios.
+# What it prints is kept in target/bench.txt for `make figures`.
 set -eu
 cd "$(dirname "$0")"
 
 ./install.sh
-../tests/archive probes
+../tests/native probes
+../tests/native braidhatch
+ARCHIVES=$PWD/../target/native
+export ARCHIVES
 (cd oracle && cargo build --profile speed --offline --quiet -p bench)
 
 pin=""
@@ -13,4 +17,4 @@ if command -v taskset >/dev/null; then
     pin="taskset -c $core"
     echo "pinned to core $core"
 fi
-$pin ../target/oracle/speed/bench
+$pin ../target/oracle/speed/bench | tee ../target/bench.txt

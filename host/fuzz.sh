@@ -3,21 +3,17 @@
 #
 # The tapes and answer-buffer sizes are libFuzzer's, from the stored tapes on; the model judges every answer. What guides it is the coverage
 # of the model, which is built with counters and says of each tape what the entries must say: the archive itself has none. Each process
-# talks to the entries in a program of their own, which on x86-64 is built with the address and undefined-behaviour sanitizers; elsewhere
-# the kit's emulator runs it without them. With the name of a slip of differential/spoils.txt, this one is put into the copy of the model
-# that judges, and must be found.
+# talks to the entries in a program of their own, whose C side is built with the address and undefined-behaviour sanitizers and which links
+# the archive, on another processor than x86-64 what tests/native makes of it. With the name of a slip of differential/spoils.txt, this one
+# is put into the copy of the model that judges, and must be found.
 set -eu
 cd "$(dirname "$0")/.."
 seconds=$1
 slip=${2:-}
 command -v clang >/dev/null || { echo "fuzz: there is no clang here"; exit 1; }
+NATIVE=1
 . tests/c
-tests/archive braidhatch
-if [ "$(uname -m)" = x86_64 ]; then
-  compile entries -g -fsanitize=address,undefined -fno-sanitize-recover=all
-else
-  compile entries
-fi
+compile entries -g -fsanitize=address,undefined -fno-sanitize-recover=all
 
 fuzz=$PWD/target/fuzz
 rm -rf "$fuzz/source"
@@ -47,7 +43,7 @@ done
 cd "$fuzz/logs"
 rm -f fuzz-*.log
 status=0
-ENTRIES="$emulator $fuzz/../host/entries" "$fuzz/fuzz${slip:+-spoiled}" -jobs=2 -workers=2 -max_total_time="$seconds" -max_len=8192 \
+ENTRIES="$fuzz/../host/entries" "$fuzz/fuzz${slip:+-spoiled}" -jobs=2 -workers=2 -max_total_time="$seconds" -max_len=8192 \
   -timeout=60 -print_final_stats=1 -artifact_prefix="$fuzz/logs/" "$fuzz/found${slip:+-spoiled}" "$fuzz/seeds" >jobs.out 2>&1 || status=$?
 grep -hE '^fuzz: |DONE +cov:' fuzz-*.log || true
 if [ -n "$slip" ]; then

@@ -1,7 +1,8 @@
 #!/usr/bin/env python3
 """Prints one table of all crates: lines of code, definitions, laws and proofs of functions, edits that must be refused, and the time of a
 check in units of one check of `pacing`. Each crate is proved from nothing, by itself, in a copy of the repository. With --lines nothing is
-proved. Lines that are blank or only a comment aren't counted; the time is CPU, so read the ratios."""
+proved. Lines that are blank or only a comment aren't counted; the time is CPU, so read the ratios. Below it stands what the last
+`make bench` printed."""
 import os
 import resource
 import shutil
@@ -66,6 +67,17 @@ def times(names):
         shutil.rmtree(room)
 
 
+def benchmark():
+    """What differential/bench.sh keeps."""
+    print()
+    if not os.path.exists("target/bench.txt"):
+        print("No benchmark yet: make bench")
+        return
+    with open("target/bench.txt", encoding="utf-8") as lines:
+        for line in lines:
+            print(("    " + line).rstrip())
+
+
 def main():
     os.chdir(os.path.join(os.path.dirname(os.path.abspath(__file__)), ".."))
     names = crates()
@@ -82,6 +94,7 @@ def main():
     print("|" + "---|" * len(COLUMNS))
     for row in rows:
         print("| " + " | ".join(f"{cell:,}" if isinstance(cell, int) else cell for cell in row) + " |")
+    benchmark()
 
 
 main()

@@ -3,10 +3,9 @@
 # instead; a number is another seed.
 set -eu
 cd "$(dirname "$0")/.."
-. tests/x86-64
 mkdir -p target/host
-tests/archive probes
+tests/native probes
 for program in leaves records dealing; do
-  rustc --edition 2021 -O -D warnings "host/$program.rs" -L target/staticlib -l static=probes -o "target/host/$program"
+  rustc --edition 2021 -O -D warnings "host/$program.rs" -L target/native -l static=probes -o "target/host/$program"
   "target/host/$program" "$@"
 done

@@ -1,7 +1,8 @@
 #!/bin/sh
 # The shell's side: the header, the C entries against the stored answers and the model, an installed copy, writable data, stack, threads.
 # `tests/shell.sh HISTORIES DAMAGED ARBITRARY SEED` compares more tapes with the model (differential/README.md, `compare plug`); without
-# these words, few of them, and under an emulator none.
+# these words, few of them, and under an emulator none. With SANITIZE=1 the C side but for stack.c is built with the address and
+# undefined-behaviour sanitizers; NATIVE=1 is explained in tests/c.
 set -eu
 cd "$(dirname "$0")/.."
 scratch=$(mktemp -d)
@@ -24,10 +25,14 @@ for cxx in c++ clang++; do
 done
 
 . tests/c
-tests/archive braidhatch
-tests/sections target/staticlib/libbraidhatch.a
-for program in race entries; do compile $program; done
-for program in stack threads; do compile $program -pthread; done
+tests/sections "$archive"
+sanitizers=${SANITIZE:+-g -fsanitize=address,undefined -fno-sanitize-recover=all}
+for program in race entries; do compile $program $sanitizers; done
+compile threads -pthread $sanitizers
+compile stack -pthread
+# Many programs are started, and the search for leaks at the end of each takes longer than all the rest.
+ASAN_OPTIONS=detect_leaks=0
+export ASAN_OPTIONS
 
 compare=target/differential/release/compare
 (cd differential && cargo build --release --offline --quiet -p compare)
@@ -52,7 +57,11 @@ $compare delays 100000 1 $emulator target/host/entries --delays
 $emulator target/host/race differential/stored/example.tape >"$scratch/race"
 diff tests/race.txt "$scratch/race"
 echo "race: the example in words"
-tests/installed "$compiler" "$emulator"
+if [ "$maker" = tests/archive ]; then
+  tests/installed "$compiler" "$emulator"
+else
+  echo "installed: not run: what is installed is for x86-64"
+fi
 
 # The emulator has a word to say of each child that falls.
 $emulator target/host/stack differential/stored/*.tape >"$scratch/stack" 2>"$scratch/falls" || { cat "$scratch/falls"; exit 1; }

@@ -211,4 +211,5 @@ def check_all(stories, tapes):
     return faults or not total
 
 
-sys.exit(1 if check_all(sys.argv[1], sys.argv[2]) else 0)
+if __name__ == '__main__':
+    sys.exit(1 if check_all(sys.argv[1], sys.argv[2]) else 0)

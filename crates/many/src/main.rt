@@ -2,50 +2,15 @@
 // and the answer buffer's size, 8 bytes each, low byte first, then the tape; for each it writes the line `status place written calls check`
 // and then exactly the written bytes of answers. A tape has at most 65,536 bytes; of a larger buffer 336,434 bytes are taken, which the
 // answers to no such tape pass (proved: tapes/Claims roomFor). A longer tape, or an input that ends inside one, is told on standard error and ends the program.
-ghost use Prim.Native.Nat.{_≤_};
-use console::complain;
 use console::number;
 use console::text;
-use libc::STDIN_FILENO;
+use intake::Next;
+use intake::least;
+use intake::next_tape;
 
 const TAPE: usize = 65536;
 
 const ROOM: usize = 336434;
-
-enum Head {
-    End,
-    Cut,
-    Sizes(u64, u64),
-}
-
-fn wide(b: u8) -> u64 {
-    b as u64
-}
-
-// A number in 8 bytes, low byte first, from the place at on.
-fn eight(head: &[u8; 16], at: usize) -> u64
-    requires { ⌜ at ≤ 8 ⌝ }
-{
-    let mut v: u64 = 0;
-    let mut k: usize = 8;
-    while 0 < k {
-        k -= 1;
-        v = (v << 8) | wide(head[at + k]);
-    }
-    v
-}
-
-fn read_head() -> Head {
-    let mut head = [0u8; 16];
-    let got = io::read_full(STDIN_FILENO, &mut head);
-    if got == 0 {
-        return Head::End;
-    }
-    if got < 16 {
-        return Head::Cut;
-    }
-    Head::Sizes(eight(&head, 0), eight(&head, 8))
-}
 
 fn field(n: u64, end: &[u8]) {
     number(n);
@@ -68,38 +33,22 @@ fn answer(tape: &[u8], out: &mut [u8]) {
     first(out, r.written);
 }
 
-fn least(a: u64, b: usize) -> usize
-    ensures { λ r. ⌜ r ≤ b ⌝ }
-{
-    if a < b as u64 { a as usize } else { b }
-}
-
-// Reads a tape and answers it; false if the input has no such tape.
-fn one(tape: &mut [u8], out: &mut [u8], long: u64, room: u64) -> bool {
-    if (tape.len() as u64) < long {
-        complain(b"many: a tape of more than 65,536 bytes\n");
-        return false;
-    }
-    let n = long as usize;
-    let got = io::read_full(STDIN_FILENO, &mut tape[..n]);
-    if got < n {
-        complain(b"many: the input ends inside a tape\n");
-        return false;
-    }
+// Answers the tape of this length that stands in the buffer.
+fn one(tape: &[u8], out: &mut [u8], long: u64, room: u64) {
+    let n = least(long, tape.len());
     let m = least(room, out.len());
     answer(&tape[..n], &mut out[..m]);
-    true
 }
 
+// Answers the next tape; false if there is none.
 fn next(tape: &mut [u8; TAPE], out: &mut [u8; ROOM]) -> bool {
-    let h = read_head();
-    match h {
-        Head::End => false,
-        Head::Cut => {
-            complain(b"many: the input ends before a tape\n");
-            false
+    let t = next_tape(tape, b"many");
+    match t {
+        Next::End => false,
+        Next::Tape(long, room) => {
+            one(tape, out, long, room);
+            true
         }
-        Head::Sizes(long, room) => one(tape, out, long, room),
     }
 }
 

@@ -5,3 +5,4 @@ pub mod Settled
 pub mod Steps
 pub mod Taped
 pub mod Turning
+pub mod Wished

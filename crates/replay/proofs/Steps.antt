@@ -4,7 +4,7 @@ use native.Mathlib.Omega.{arith}
 use mathlib.Core.Path.{_≡_, refl, sym, ap, _∙_}
 use mathlib.Core.Logic.{⊎-elim}
 use mathlib.Core.List.{List}
-use lib.ListN.{getD}
+use lib.ListN.{getD, set}
 use borrow.Author.Tests.{lt-ltb, le-ltb}
 use Rattle.numbers.proofs.Cases.{less-or-not}
 use Rattle.records.specs.Classes.{sameClass}
@@ -19,24 +19,33 @@ use Rattle.records.specs.declared.names.Echs.{Echs}
 use Rattle.records.specs.declared.rules.Rules.{Rules}
 use Rattle.records.specs.declared.rules.Timing.{Timing}
 use Rattle.records.specs.declared.rules.Alts.{Alts}
+use Rattle.records.specs.Services.{noServices}
+use Rattle.records.specs.declared.queries.Query.{Query}
 use Rattle.records.specs.declared.queries.Queries.{Queries}
 use Rattle.records.specs.declared.queries.Answers.{Answers}
 use Rattle.records.specs.declared.services.Services.{Services}
 use Rattle.state.specs.State.{made}
+use Rattle.state.specs.declared.attempts.Attempt.{Attempt}
 use Rattle.state.specs.declared.attempts.Attempts.{Attempts}
 use Rattle.state.specs.declared.attempts.Retries.{Retries}
 use Rattle.input.specs.Input.{verdictOf}
+use Rattle.input.specs.declared.Input.{Input}
+use Rattle.input.specs.declared.Verdict.{Verdict}
+use Rattle.machine.specs.declared.calls.Survey.{Survey}
+use Rattle.machine.specs.declared.wish.Found.{Found}
+use Rattle.machine.specs.declared.wish.Wish.{Wish}
 use Rattle.machine.specs.declared.grant.Turn.{Turn}
 use Rattle.machine.specs.declared.grant.Output.{Output}
 use Rattle.state.specs.declared.Machine.{Machine}
 use Rattle.state.specs.declared.changes.CallChange.the-variants as call
 use Rattle.state.specs.declared.changes.InputChange.the-variants as input
 use Rattle.machine.specs.declared.calls.Beside.{Beside}
-use Rattle.after.specs.After.{answersFed, servicesFed, retriesFed, namesFed, echsFed}
-use Rattle.machine.specs.Output.{wishBy, wishOf, granted}
-use Rattle.machine.specs.Steps.{turnOf, judged, outputStep, inputStep}
+use Rattle.after.specs.After.{putQuery, putAttempt, putAddresses, queriesFed, attemptsFed, servicesFed, retriesFed, namesFed, echsFed}
+use Rattle.machine.specs.Output.{foundBy, wishFrom, wishBy, wishOf, granted}
+use Rattle.machine.specs.Steps.{surveyOf, turnOf, judged, outputStep, inputStep}
 use Rattle.records.proofs.Classes.{classes-same}
 use Rattle.machine.proofs.Looking.{alike-bytes}
+use Rattle.machine.proofs.Way.{wish-seen}
 use Rattle.parts.specs.Reading.{Reading, read, fault}
 use Rattle.parts.specs.Reading as reading
 use Rattle.bodies.specs.Events.{eventAt}
@@ -56,7 +65,7 @@ use Rattle.replies.specs.declared.Change.the-variants as change
 use Rattle.replies.specs.declared.Reply.{Reply}
 use Rattle.replies.specs.declared.Touched.{Touched}
 use Rattle.replies.specs.declared.Touched.the-variants as touched
-use Rattle.replies.specs.Replies.{replyBy, replyOn, eventIn, after, changeIn, idsAfter, queriesAfter, attemptsAfter, touchedOf}
+use Rattle.replies.specs.Replies.{replyBy, replyOn, eventIn, after, changeIn, idsAfter, triedAt, touchedOf}
 use Rattle.replay.specs.Saying.{answerName, answerEch, saidTo}
 use Rattle.replay.specs.Replay.{Step, stepBy, stepOf}
 
@@ -86,31 +95,69 @@ pub body-step : (m : Machine) (now : ℕ) (body : List ℕ) (r : EventRead) → 
 unfolding stepOf readBody
 body-step m now body r e = ap (λ x. stepBy m now (reading.next x (λ v end. read (toldBy body v) end))) (sym e) ∙ read-step m now body r
 
--- The parts after a change, by what it touches
+-- The parts after a change, by what it stores
+
+-- those that no element is stored in, but for the ids, are kept
+abbrev keeps : Machine → Change → Queries → Answers → Services → Attempts → Machine
+keeps m c q d s a =
+    record { rules = m .rules; timing = m .timing; alts = m .alts; ids = idsAfter (m .ids) c; queries = q; answers = d; services = s; attempts = a; retries = m .retries; names = m .names; echs = m .echs }
+
+abbrev queryIn : Queries → ℕ → Query → ℕ → Queries
+queryIn q p x n = record { count = n; list = set (q .list) p x }
+
+abbrev attemptIn : Attempts → ℕ → Attempt → ℕ → Attempts
+attemptIn a p x n = record { count = n; list = set (a .list) p x }
 
 abbrev pub partsBy : Touched → Machine → Change → Beside → Machine
-partsBy touched.Nothing m c b = m
-partsBy touched.Asked m c b =
-    record { rules = m .rules; timing = m .timing; alts = m .alts; ids = idsAfter (m .ids) c; queries = queriesAfter (m .queries) c; answers = m .answers; services = m .services; attempts = m .attempts; retries = m .retries; names = m .names; echs = m .echs }
-partsBy touched.Tried m c b =
-    record { rules = m .rules; timing = m .timing; alts = m .alts; ids = idsAfter (m .ids) c; queries = m .queries; answers = m .answers; services = m .services; attempts = attemptsAfter (m .attempts) c; retries = m .retries; names = m .names; echs = m .echs }
-partsBy touched.Answered m c b =
-    record { rules = m .rules; timing = m .timing; alts = m .alts; ids = m .ids; queries = queriesAfter (m .queries) c; answers = answersFed (m .answers) (changeIn c) (b .addresses); services = m .services; attempts = m .attempts; retries = m .retries; names = m .names; echs = m .echs }
+partsBy touched.Nothing m c b = keeps m c (m .queries) (m .answers) (m .services) (m .attempts)
+partsBy (touched.Asked p q n) m c b = keeps m c (queryIn (m .queries) p q n) (m .answers) (m .services) (m .attempts)
+partsBy (touched.Tried p a n) m c b = keeps m c (m .queries) (m .answers) (m .services) (attemptIn (m .attempts) p a n)
+partsBy (touched.Answered p q n) m c b = keeps m c (queryIn (m .queries) p q n) (record { list = set (m .answers .list) p (b .addresses) }) (m .services) (m .attempts)
+partsBy (touched.Emptied p q n) m c b = keeps m c (queryIn (m .queries) p q n) (m .answers) noServices (m .attempts)
 partsBy touched.Brought m c b =
-    record { rules = m .rules; timing = m .timing; alts = m .alts; ids = m .ids; queries = queriesAfter (m .queries) c; answers = m .answers; services = servicesFed (m .services) (changeIn c) (b .services); attempts = attemptsAfter (m .attempts) c; retries = retriesFed (m .retries) (changeIn c); names = namesFed (m .names) (changeIn c) (b .names); echs = echsFed (m .echs) (changeIn c) (b .echs) (b .retry) }
+    record { rules = m .rules; timing = m .timing; alts = m .alts; ids = idsAfter (m .ids) c; queries = queriesFed (m .queries) (changeIn c); answers = m .answers; services = servicesFed (m .services) (changeIn c) (b .services); attempts = attemptsFed (m .attempts) (changeIn c); retries = retriesFed (m .retries) (changeIn c); names = namesFed (m .names) (changeIn c) (b .names); echs = echsFed (m .echs) (changeIn c) (b .echs) (b .retry) }
 
-pub parts-after : (m : Machine) (c : Change) (b : Beside) → after m c b ≡ partsBy (touchedOf c) m c b
+abbrev pub touchedIn : Machine → Change → Touched
+touchedIn m c = touchedOf (m .queries .count) (m .attempts .count) c
+
+pub parts-after : (m : Machine) (c : Change) (b : Beside) → after m c b ≡ partsBy (touchedIn m c) m c b
+unfolding putQuery putAttempt putAddresses
 parts-after m change.Nothing b = refl
 parts-after m (change.Called call.Nothing) b = refl
-parts-after m (change.Called (call.Asks p q)) b = refl
-parts-after m (change.Called (call.Tries p a)) b = refl
-parts-after m (change.Called (call.Cancels p a)) b = refl
+parts-after m (change.Called (call.Asks p q)) b = ⊎-elim (λ (h : p < 16). rw (lt-ltb p 16 h)) (λ (h : 16 ≤ p). rw (le-ltb p 16 h)) (less-or-not p 16)
+parts-after m (change.Called (call.Tries p a)) b = ⊎-elim (λ (h : p < 32). rw (lt-ltb p 32 h)) (λ (h : 32 ≤ p). rw (le-ltb p 32 h)) (less-or-not p 32)
+parts-after m (change.Called (call.Cancels p a)) b = ⊎-elim (λ (h : p < 32). rw (lt-ltb p 32 h)) (λ (h : 32 ≤ p). rw (le-ltb p 32 h)) (less-or-not p 32)
 parts-after m (change.Fed input.Nothing) b = refl
-parts-after m (change.Fed (input.Ends p a)) b = refl
+parts-after m (change.Fed (input.Ends p a)) b = ⊎-elim (λ (h : p < 32). rw (lt-ltb p 32 h)) (λ (h : 32 ≤ p). rw (le-ltb p 32 h)) (less-or-not p 32)
 parts-after m (change.Fed (input.Retries p a r)) b = refl
-parts-after m (change.Fed (input.Holds p q)) b = refl
-parts-after m (change.Fed (input.Empties p q)) b = refl
+parts-after m (change.Fed (input.Holds p q)) b = ⊎-elim (λ (h : p < 16). rw (lt-ltb p 16 h)) (λ (h : 16 ≤ p). rw (le-ltb p 16 h)) (less-or-not p 16)
+parts-after m (change.Fed (input.Empties p q)) b = ⊎-elim (λ (h : p < 16). rw (lt-ltb p 16 h)) (λ (h : 16 ≤ p). rw (le-ltb p 16 h) (rw (le-ltb p 16 h))) (less-or-not p 16)
 parts-after m (change.Fed (input.Offers p q round)) b = refl
+
+-- what is stored as an element lies inside its table
+abbrev pub Within : Touched → Type 0
+Within touched.Nothing = Unit {0}
+Within (touched.Asked p q n) = p < 16
+Within (touched.Tried p a n) = p < 32
+Within (touched.Answered p q n) = p < 16
+Within (touched.Emptied p q n) = p < 16
+Within touched.Brought = Unit {0}
+
+tried-within : (n p : ℕ) (a : Attempt) → Within (triedAt n p a)
+tried-within n p a = ⊎-elim (λ (h : p < 32). rw (lt-ltb p 32 h) h) (λ (h : 32 ≤ p). rw (le-ltb p 32 h) tt) (less-or-not p 32)
+
+pub within : (m : Machine) (c : Change) → Within (touchedIn m c)
+within m change.Nothing = tt
+within m (change.Called call.Nothing) = tt
+within m (change.Called (call.Asks p q)) = ⊎-elim (λ (h : p < 16). rw (lt-ltb p 16 h) h) (λ (h : 16 ≤ p). rw (le-ltb p 16 h) tt) (less-or-not p 16)
+within m (change.Called (call.Tries p a)) = tried-within (m .attempts .count) p a
+within m (change.Called (call.Cancels p a)) = tried-within (m .attempts .count) p a
+within m (change.Fed input.Nothing) = tt
+within m (change.Fed (input.Ends p a)) = tried-within (m .attempts .count) p a
+within m (change.Fed (input.Retries p a r)) = tt
+within m (change.Fed (input.Holds p q)) = ⊎-elim (λ (h : p < 16). rw (lt-ltb p 16 h) h) (λ (h : 16 ≤ p). rw (le-ltb p 16 h) tt) (less-or-not p 16)
+within m (change.Fed (input.Empties p q)) = ⊎-elim (λ (h : p < 16). rw (lt-ltb p 16 h) h) (λ (h : 16 ≤ p). rw (le-ltb p 16 h) tt) (less-or-not p 16)
+within m (change.Fed (input.Offers p q round)) = tt
 
 -- a step counts one call at most
 few-by : (m : Machine) (now : ℕ) (r : Reading Told) → stepBy m now r .calls ≤ 1
@@ -145,10 +192,24 @@ pub made-parts : (r : Rules) (t : Timing) (l : Alts) (n : Names) (m : Machine) �
 unfolding made
 made-parts r t l n m e = ap (λ x. parts r t l (x .ids) (x .queries) (x .answers) (x .services) (x .attempts) (x .retries) (x .names) (x .echs)) e
 
+-- the wish by way of a survey, and what is given for it
+pub turn-seen : (same : Same) (alike : next.Alike) (m : Machine) (now : ℕ) {seen : Survey} {f : Found} {w : Wish} {turn : Turn} → seen ≡ surveyOf (m .rules) (m .timing) (m .alts .count) (m .queries) (m .services) (m .attempts) (m .retries .count) now
+    → f ≡ foundBy same alike (seen .look) (seen .asks .asked) (m .rules) (m .alts) (m .queries) (m .answers) (m .services) (m .attempts) (m .retries) → w ≡ wishFrom (m .rules) (m .timing) (seen .tries) (seen .asks) f (m .attempts .count) now
+    → turn ≡ granted (m .queries) (m .attempts) (m .ids) w now → turn ≡ turnBy same alike m now
+turn-seen same alike m now e f v g = g ∙ ap (λ x. granted (m .queries) (m .attempts) (m .ids) x now) (wish-seen same alike _ _ _ _ _ _ _ _ _ _ _ _ e f v)
+
+-- what a call is given, over classes of names and ECH bytes, and what becomes of an input; the reply to a body that was read
+abbrev pub turnFor : Machine → classes.Alike → ℕ → Turn
+turnFor m alike now = turnBy (sameClass (alike .names)) (alikeEndpoints (alike .hosts) (alike .echs)) m now
+
+abbrev pub verdictFor : Machine → ℕ → Input → Verdict
+verdictFor m now i = verdictOf (m .rules .ech) (m .queries) (m .attempts) (m .retries .count) i now
+
+abbrev pub Decides : Machine → classes.Alike → ℕ → EventRead → Reply → Type 0
+Decides m alike now r x = x ≡ replyBy (turnFor m alike now) (verdictFor m now) r
+
 -- the step of a body, as the loop comes to it
-pub step-made : (m : Machine) (alike : classes.Alike) (now : ℕ) (whole body : List ℕ) (r : EventRead) (e : Event) (reply : Reply) → alike ≡ alikeOf (m .names) (m .echs) → whole ≡ body → eventShown r ≡ eventAt body → e ≡ eventIn r
-    → reply ≡ replyBy (turnBy (sameClass (alike .names)) (alikeEndpoints (alike .hosts) (alike .echs)) m now) (λ i. verdictOf (m .rules .ech) (m .queries) (m .attempts) (m .retries .count) i now) r
-    → stepIn m reply (besideOf body e) ≡ stepOf m now whole
+pub step-made : (m : Machine) (alike : classes.Alike) (now : ℕ) (whole body : List ℕ) (r : EventRead) (e : Event) (reply : Reply) → alike ≡ alikeOf (m .names) (m .echs) → whole ≡ body → eventShown r ≡ eventAt body → e ≡ eventIn r → Decides m alike now r reply → stepIn m reply (besideOf body e) ≡ stepOf m now whole
 unfolding judged
 step-made m alike now whole body r e reply c w h v k =
     rw (w, v, k, turn-same m now alike c) (sym (body-step m now body r h))

@@ -1,4 +1,5 @@
-// Replay: each part of the machine lies in a local of its own, and only the parts that an event touches are stored.
+// Replay: each part of the machine lies in a local of its own, and only the record that an event changes is stored, in its place. A part that
+// is handed on is copied, so the loop itself decides: no function stands between it and those that read the parts.
 ghost use mathlib.Core.Path.{_≡_};
 ghost use lib.ListN.{length};
 ghost use lib.Seq.{sets};
@@ -11,19 +12,31 @@ ghost use Rattle.replay.specs.Saying.{answerName, answerEch, saidTo};
 ghost use Rattle.replay.specs.Replay.{runFrom, Gives};
 use super::frames::FrameRead;
 use super::frames::frame_at;
-use after::answers_fed;
+use after::attempts_fed;
 use after::echs_fed;
 use after::names_fed;
+use after::queries_fed;
 use after::retries_fed;
 use after::services_fed;
 use answers::writer::output_ech;
 use answers::writer::output_name;
 use answers::writer::put_output;
 use answers::writer::put_taken;
+use bodies::EventRead;
 use bodies::addresses_of;
+use bodies::input_of;
 use bodies::offered_of;
 use bodies::read_event;
 use bodies::retry_of;
+use input::verdict_of;
+use machine::calls::survey_of;
+use machine::grant::grant_of;
+use machine::grant::wish_attempt;
+use machine::grant::wish_query;
+use machine::wish::Found;
+use machine::wish::found_of;
+use machine::wish::looks;
+use machine::wish::wish_of;
 use numbers::put::Wrote;
 use numbers::refusal::refusal_number;
 use records::names::Ech;
@@ -32,14 +45,16 @@ use records::names::Names;
 use records::rules::Alts;
 use records::rules::Rules;
 use records::rules::Timing;
+use records::services::no_services;
 use replies::Answer;
 use replies::Touched;
-use replies::attempts_after;
+use replies::call_reply;
 use replies::change_in;
 use replies::event_in;
+use replies::fault_reply;
 use replies::ids_after;
-use replies::queries_after;
-use replies::reply_to;
+use replies::input_reply;
+use replies::is_call;
 use replies::touched_of;
 use state::made;
 use upcoming::classes::alike_of;
@@ -125,20 +140,59 @@ pub fn run(
                 let body = &tape[start..next];
                 let read = read_event(body);
                 let event = event_in(read);
-                let reply = reply_to(
-                    rules,
-                    timing,
-                    alts,
-                    ids,
-                    queries,
-                    answers,
-                    services,
-                    attempts,
-                    retries,
-                    alike,
-                    now,
-                    read,
-                );
+                let reply = match read {
+                    EventRead::Refused(e, _) => fault_reply(e),
+                    EventRead::Event(_, _) => {
+                        if is_call(event) {
+                            let seen = survey_of(
+                                rules,
+                                timing,
+                                alts.count,
+                                queries,
+                                services,
+                                attempts,
+                                retries.count,
+                                now,
+                            );
+                            let tries = seen.tries;
+                            let asks = seen.asks;
+                            let look = seen.look;
+                            let mut found = Found::Nothing;
+                            if looks(look) {
+                                found = found_of(
+                                    look,
+                                    rules,
+                                    alts,
+                                    queries,
+                                    answers,
+                                    services,
+                                    attempts,
+                                    retries,
+                                    asks,
+                                    alike,
+                                );
+                            }
+                            let w = wish_of(rules, timing, tries, asks, found, attempts.count, now);
+                            let qp = wish_query(w);
+                            let tp = wish_attempt(w);
+                            let q = queries.list[qp];
+                            let a = attempts.list[tp];
+                            let turn = grant_of(queries.count, attempts.count, q, a, ids, w, now);
+                            call_reply(turn)
+                        } else {
+                            let input = input_of(event);
+                            let verdict = verdict_of(
+                                rules.ech,
+                                queries,
+                                attempts,
+                                retries.count,
+                                input,
+                                now,
+                            );
+                            input_reply(verdict)
+                        }
+                    }
+                };
                 let answer = reply.answer;
                 let change = reply.change;
                 let counted = reply.calls;
@@ -161,26 +215,33 @@ pub fn run(
                         at = next;
                         written = end;
                         calls += counted;
-                        let fed = change_in(change);
-                        let touched = touched_of(change);
+                        ids = ids_after(ids, change);
+                        let touched = touched_of(queries.count, attempts.count, change);
                         match touched {
                             Touched::Nothing => {}
-                            Touched::Asked => {
-                                ids = ids_after(ids, change);
-                                queries = queries_after(queries, change);
+                            Touched::Asked(p, q, n) => {
+                                queries.list[p] = q;
+                                queries.count = n;
                             }
-                            Touched::Tried => {
-                                ids = ids_after(ids, change);
-                                attempts = attempts_after(attempts, change);
+                            Touched::Tried(p, a, n) => {
+                                attempts.list[p] = a;
+                                attempts.count = n;
                             }
-                            Touched::Answered => {
-                                queries = queries_after(queries, change);
+                            Touched::Answered(p, q, n) => {
+                                queries.list[p] = q;
+                                queries.count = n;
                                 let l = addresses_of(body, event);
-                                answers = answers_fed(answers, fed, l);
+                                answers.list[p] = l;
+                            }
+                            Touched::Emptied(p, q, n) => {
+                                queries.list[p] = q;
+                                queries.count = n;
+                                services = no_services();
                             }
                             Touched::Brought => {
-                                queries = queries_after(queries, change);
-                                attempts = attempts_after(attempts, change);
+                                let fed = change_in(change);
+                                queries = queries_fed(queries, fed);
+                                attempts = attempts_fed(attempts, fed);
                                 let o = offered_of(body, event);
                                 let offered = o.services;
                                 let targets = o.names;

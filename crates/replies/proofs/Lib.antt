@@ -1,2 +1,2 @@
 -- What an event is answered.
-mod Replying
+pub mod Replying

@@ -1,10 +1,12 @@
 -- What an event is answered and what it changes: the machine's two calls, and a body that is refused.
-use mathlib.Core.Bool.{Bool, true, false}
+use Prim.Native.Nat.{ℕ}
+use mathlib.Core.Bool.{Bool, true, false, cond}
+use lib.Dec.{ltb}
 use Rattle.numbers.specs.declared.refusal.Refusal.{Refusal}
 use Rattle.pacing.specs.declared.id.IdGenerator.{IdGenerator}
-use Rattle.records.specs.declared.queries.Queries.{Queries}
+use Rattle.records.specs.declared.queries.Query.{Query}
 use Rattle.state.specs.declared.Machine.{Machine}
-use Rattle.state.specs.declared.attempts.Attempts.{Attempts}
+use Rattle.state.specs.declared.attempts.Attempt.{Attempt}
 use Rattle.state.specs.declared.changes.CallChange.{CallChange}
 use Rattle.state.specs.declared.changes.CallChange.the-variants as call
 use Rattle.state.specs.declared.changes.InputChange.{InputChange}
@@ -13,7 +15,7 @@ use Rattle.input.specs.declared.Verdict.{Verdict}
 use Rattle.machine.specs.declared.calls.Beside.{Beside}
 use Rattle.machine.specs.declared.calls.Taken.the-variants as taken
 use Rattle.machine.specs.declared.grant.Turn.{Turn}
-use Rattle.after.specs.After.{idsCalled, queriesCalled, queriesFed, attemptsCalled, attemptsFed}
+use Rattle.after.specs.After.{counted, idsCalled}
 use Rattle.machine.specs.Steps.{called, fed, changeOf, takenOf}
 use Rattle.bodies.specs.Told.{inputOf}
 use Rattle.bodies.specs.declared.Event.{Event}
@@ -69,7 +71,7 @@ after m change.Nothing b = m
 after m (change.Called c) b = called m c
 after m (change.Fed c) b = fed m c b
 
--- its parts that calls and inputs change
+-- what an input changes, and the ids after a change
 abbrev pub changeIn : Change → InputChange
 changeIn change.Nothing = input.Nothing
 changeIn (change.Called c) = input.Nothing
@@ -80,32 +82,35 @@ idsAfter i change.Nothing = i
 idsAfter i (change.Called c) = idsCalled i c
 idsAfter i (change.Fed c) = i
 
-abbrev pub queriesAfter : Queries → Change → Queries
-queriesAfter q change.Nothing = q
-queriesAfter q (change.Called c) = queriesCalled q c
-queriesAfter q (change.Fed c) = queriesFed q c
+-- what a change stores beside the ids; a place outside its table, which no change has, stores nothing
+abbrev pub askedAt : ℕ → ℕ → Query → Touched
+askedAt n p q = cond (ltb p 16) (touched.Asked p q (counted n p)) touched.Nothing
 
-abbrev pub attemptsAfter : Attempts → Change → Attempts
-attemptsAfter a change.Nothing = a
-attemptsAfter a (change.Called c) = attemptsCalled a c
-attemptsAfter a (change.Fed c) = attemptsFed a c
+abbrev pub triedAt : ℕ → ℕ → Attempt → Touched
+triedAt n p a = cond (ltb p 32) (touched.Tried p a (counted n p)) touched.Nothing
 
--- which parts a change touches
-abbrev pub touchedByCall : CallChange → Touched
-touchedByCall call.Nothing = touched.Nothing
-touchedByCall (call.Asks p q) = touched.Asked
-touchedByCall (call.Tries p a) = touched.Tried
-touchedByCall (call.Cancels p a) = touched.Tried
+abbrev pub answeredAt : ℕ → ℕ → Query → Touched
+answeredAt n p q = cond (ltb p 16) (touched.Answered p q (counted n p)) touched.Nothing
 
-abbrev pub touchedByInput : InputChange → Touched
-touchedByInput input.Nothing = touched.Nothing
-touchedByInput (input.Ends p a) = touched.Tried
-touchedByInput (input.Retries p a r) = touched.Brought
-touchedByInput (input.Holds p q) = touched.Answered
-touchedByInput (input.Empties p q) = touched.Brought
-touchedByInput (input.Offers p q round) = touched.Brought
+abbrev pub emptiedAt : ℕ → ℕ → Query → Touched
+emptiedAt n p q = cond (ltb p 16) (touched.Emptied p q (counted n p)) touched.Brought
 
-abbrev pub touchedOf : Change → Touched
-touchedOf change.Nothing = touched.Nothing
-touchedOf (change.Called c) = touchedByCall c
-touchedOf (change.Fed c) = touchedByInput c
+-- with so many query records and attempts before
+abbrev pub touchedByCall : (asked tried : ℕ) → CallChange → Touched
+touchedByCall asked tried call.Nothing = touched.Nothing
+touchedByCall asked tried (call.Asks p q) = askedAt asked p q
+touchedByCall asked tried (call.Tries p a) = triedAt tried p a
+touchedByCall asked tried (call.Cancels p a) = triedAt tried p a
+
+abbrev pub touchedByInput : (asked tried : ℕ) → InputChange → Touched
+touchedByInput asked tried input.Nothing = touched.Nothing
+touchedByInput asked tried (input.Ends p a) = triedAt tried p a
+touchedByInput asked tried (input.Retries p a r) = touched.Brought
+touchedByInput asked tried (input.Holds p q) = answeredAt asked p q
+touchedByInput asked tried (input.Empties p q) = emptiedAt asked p q
+touchedByInput asked tried (input.Offers p q round) = touched.Brought
+
+abbrev pub touchedOf : (asked tried : ℕ) → Change → Touched
+touchedOf asked tried change.Nothing = touched.Nothing
+touchedOf asked tried (change.Called c) = touchedByCall asked tried c
+touchedOf asked tried (change.Fed c) = touchedByInput asked tried c

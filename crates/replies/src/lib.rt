@@ -1,47 +1,24 @@
-// What an event is answered and what it changes, decided over the machine's parts.
+// What an event is answered and what it changes, from what a call is given or what becomes of an input.
+ghost use Prim.Native.Nat.{_<_};
 ghost use mathlib.Core.Path.{_≡_};
-ghost use Rattle.records.specs.Classes.{sameClass};
-ghost use Rattle.upcoming.specs.Alike.{alikeEndpoints};
-ghost use Rattle.machine.specs.Output.{foundBy, wishBy, granted};
-ghost use Rattle.replies.specs.Replies.{callReply, inputReply, faultReply, eventIn, replyOn, isCall, replyBy, changeIn};
-ghost use Rattle.input.specs.Input.{verdictOf};
-ghost use Rattle.replies.specs.Replies.{idsAfter, queriesAfter, attemptsAfter, touchedByCall, touchedByInput, touchedOf};
-use after::attempts_called;
-use after::attempts_fed;
+ghost use Rattle.replies.specs.Replies.{callReply, inputReply, faultReply, eventIn, isCall, changeIn};
+ghost use Rattle.replies.specs.Replies.{idsAfter, askedAt, triedAt, answeredAt, emptiedAt, touchedByCall, touchedByInput, touchedOf};
+ghost use Rattle.after.specs.After.{counted};
 use after::ids_called;
-use after::queries_called;
-use after::queries_fed;
 use bodies::Event;
 use bodies::EventRead;
-use bodies::input_of;
 use input::Verdict;
-use input::verdict_of;
 use machine::calls::Taken;
 use machine::calls::change_of;
-use machine::calls::survey_of;
 use machine::calls::taken_of;
-use machine::calls::turn_of;
 use machine::grant::Output;
 use machine::grant::Turn;
-use machine::wish::Found;
-use machine::wish::Look;
-use machine::wish::found_of;
-use machine::wish::looks;
-use machine::wish::wish_of;
 use numbers::refusal::Refusal;
 use pacing::id::IdGenerator;
-use records::queries::Answers;
-use records::queries::Queries;
-use records::rules::Alts;
-use records::rules::Rules;
-use records::rules::Timing;
-use records::services::Services;
-use starting::surveys::Asks;
-use state::attempts::Attempts;
-use state::attempts::Retries;
+use records::queries::Query;
+use state::attempts::Attempt;
 use state::changes::CallChange;
 use state::changes::InputChange;
-use upcoming::alike::Alike;
 
 // A call's output, or what became of an input.
 pub enum Answer {
@@ -62,93 +39,18 @@ pub struct Reply {
     pub change: Change,
 }
 
-// Which parts a change touches: none; ids and query records; ids and attempts; query records and addresses; all but ids and addresses.
+// What a change stores beside the ids: nothing; one query record, or one attempt, with its place and how many its table then has; such a
+// record with its addresses, or with no service held any more; all parts but the addresses.
 pub enum Touched {
     Nothing,
-    Asked,
-    Tried,
-    Answered,
+    Asked(usize, Query, usize),
+    Tried(usize, Attempt, usize),
+    Answered(usize, Query, usize),
+    Emptied(usize, Query, usize),
     Brought,
 }
 
-// What is found for a survey. Names and ECH bytes are compared by class.
-fn found_by(
-    look: Look,
-    rules: Rules,
-    alts: Alts,
-    queries: Queries,
-    answers: Answers,
-    services: Services,
-    attempts: Attempts,
-    retries: Retries,
-    asks: Asks,
-    alike: Alike,
-) -> Found
-    ensures { λ r. ⌜ r ≡ foundBy (sameClass (alike .names)) (alikeEndpoints (alike .hosts) (alike .echs)) look (asks .asked) rules alts queries answers services attempts retries ⌝ }
-{
-    if !looks(look) {
-        return Found::Nothing;
-    }
-    found_of(
-        look,
-        rules,
-        alts,
-        queries,
-        answers,
-        services,
-        attempts,
-        retries,
-        asks,
-        alike,
-    )
-}
-
-// What a call is given.
-fn turn_by(
-    rules: Rules,
-    timing: Timing,
-    alts: Alts,
-    ids: IdGenerator,
-    queries: Queries,
-    answers: Answers,
-    services: Services,
-    attempts: Attempts,
-    retries: Retries,
-    alike: Alike,
-    now: u64,
-) -> Turn
-    ensures { λ r. ⌜ r ≡ granted queries attempts ids (wishBy (sameClass (alike .names)) (alikeEndpoints (alike .hosts) (alike .echs)) rules timing alts queries answers services attempts retries now) now ⌝ }
-{
-    let seen = survey_of(
-        rules,
-        timing,
-        alts.count,
-        queries,
-        services,
-        attempts,
-        retries.count,
-        now,
-    );
-    let tries = seen.tries;
-    let asks = seen.asks;
-    let look = seen.look;
-    let found = found_by(
-        look,
-        rules,
-        alts,
-        queries,
-        answers,
-        services,
-        attempts,
-        retries,
-        asks,
-        alike,
-    );
-    let w = wish_of(rules, timing, tries, asks, found, attempts.count, now);
-    turn_of(queries, attempts, ids, w, now)
-}
-
-fn call_reply(turn: Turn) -> Reply
+pub fn call_reply(turn: Turn) -> Reply
     ensures { λ r. ⌜ r ≡ callReply turn ⌝ }
 {
     let output = turn.output;
@@ -160,7 +62,7 @@ fn call_reply(turn: Turn) -> Reply
     }
 }
 
-fn input_reply(verdict: Verdict) -> Reply
+pub fn input_reply(verdict: Verdict) -> Reply
     ensures { λ r. ⌜ r ≡ inputReply verdict ⌝ }
 {
     let taken = taken_of(verdict);
@@ -173,7 +75,7 @@ fn input_reply(verdict: Verdict) -> Reply
 }
 
 // A body that is refused inside a sound frame is answered, and is no call.
-fn fault_reply(e: Refusal) -> Reply
+pub fn fault_reply(e: Refusal) -> Reply
     ensures { λ r. ⌜ r ≡ faultReply e ⌝ }
 {
     Reply {
@@ -193,7 +95,7 @@ pub fn event_in(read: EventRead) -> Event
     }
 }
 
-fn is_call(e: Event) -> bool
+pub fn is_call(e: Event) -> bool
     ensures { λ r. ⌜ r ≡ isCall e ⌝ }
 {
     match e {
@@ -203,85 +105,6 @@ fn is_call(e: Event) -> bool
         Event::Success(_) => false,
         Event::Failure(_) => false,
         Event::EchRetry(_, _) => false,
-    }
-}
-
-fn event_reply(
-    rules: Rules,
-    timing: Timing,
-    alts: Alts,
-    ids: IdGenerator,
-    queries: Queries,
-    answers: Answers,
-    services: Services,
-    attempts: Attempts,
-    retries: Retries,
-    alike: Alike,
-    now: u64,
-    e: Event,
-) -> Reply
-    ensures { λ r. ⌜ r ≡ replyOn (granted queries attempts ids (wishBy (sameClass (alike .names)) (alikeEndpoints (alike .hosts) (alike .echs)) rules timing alts queries answers services attempts retries now) now) (λ i. verdictOf (rules .ech) queries attempts (retries .count) i now) e ⌝ }
-{
-    if is_call(e) {
-        let turn = turn_by(
-            rules,
-            timing,
-            alts,
-            ids,
-            queries,
-            answers,
-            services,
-            attempts,
-            retries,
-            alike,
-            now,
-        );
-        return call_reply(turn);
-    }
-    let verdict = verdict_of(
-        rules.ech,
-        queries,
-        attempts,
-        retries.count,
-        input_of(e),
-        now,
-    );
-    input_reply(verdict)
-}
-
-// The reply to a body at a moment.
-pub fn reply_to(
-    rules: Rules,
-    timing: Timing,
-    alts: Alts,
-    ids: IdGenerator,
-    queries: Queries,
-    answers: Answers,
-    services: Services,
-    attempts: Attempts,
-    retries: Retries,
-    alike: Alike,
-    now: u64,
-    read: EventRead,
-) -> Reply
-    ensures { λ r. ⌜ r ≡ replyBy (granted queries attempts ids (wishBy (sameClass (alike .names)) (alikeEndpoints (alike .hosts) (alike .echs)) rules timing alts queries answers services attempts retries now) now) (λ i. verdictOf (rules .ech) queries attempts (retries .count) i now) read ⌝ }
-{
-    match read {
-        EventRead::Refused(e, _) => fault_reply(e),
-        EventRead::Event(e, _) => event_reply(
-            rules,
-            timing,
-            alts,
-            ids,
-            queries,
-            answers,
-            services,
-            attempts,
-            retries,
-            alike,
-            now,
-            e,
-        ),
     }
 }
 
@@ -305,56 +128,83 @@ pub fn ids_after(ids: IdGenerator, change: Change) -> IdGenerator
     }
 }
 
-pub fn queries_after(queries: Queries, change: Change) -> Queries
-    ensures { λ r. ⌜ r ≡ queriesAfter queries change ⌝ }
+// How many a table of n has, once place p holds something.
+fn filled(n: usize, p: usize) -> usize
+    requires { ⌜ p < 32 ⌝ }
+    ensures { λ r. ⌜ r ≡ counted n p ⌝ }
 {
-    match change {
-        Change::Nothing => queries,
-        Change::Called(c) => queries_called(queries, c),
-        Change::Fed(c) => queries_fed(queries, c),
-    }
+    if p < n { n } else { p + 1 }
 }
 
-pub fn attempts_after(attempts: Attempts, change: Change) -> Attempts
-    ensures { λ r. ⌜ r ≡ attemptsAfter attempts change ⌝ }
+// A place outside its table, which no change has, stores nothing.
+fn asked_at(n: usize, p: usize, q: Query) -> Touched
+    ensures { λ r. ⌜ r ≡ askedAt n p q ⌝ }
 {
-    match change {
-        Change::Nothing => attempts,
-        Change::Called(c) => attempts_called(attempts, c),
-        Change::Fed(c) => attempts_fed(attempts, c),
+    if 16 <= p {
+        return Touched::Nothing;
     }
+    Touched::Asked(p, q, filled(n, p))
 }
 
-fn call_touches(c: CallChange) -> Touched
-    ensures { λ r. ⌜ r ≡ touchedByCall c ⌝ }
+fn tried_at(n: usize, p: usize, a: Attempt) -> Touched
+    ensures { λ r. ⌜ r ≡ triedAt n p a ⌝ }
+{
+    if 32 <= p {
+        return Touched::Nothing;
+    }
+    Touched::Tried(p, a, filled(n, p))
+}
+
+fn answered_at(n: usize, p: usize, q: Query) -> Touched
+    ensures { λ r. ⌜ r ≡ answeredAt n p q ⌝ }
+{
+    if 16 <= p {
+        return Touched::Nothing;
+    }
+    Touched::Answered(p, q, filled(n, p))
+}
+
+// Services go all the same.
+fn emptied_at(n: usize, p: usize, q: Query) -> Touched
+    ensures { λ r. ⌜ r ≡ emptiedAt n p q ⌝ }
+{
+    if 16 <= p {
+        return Touched::Brought;
+    }
+    Touched::Emptied(p, q, filled(n, p))
+}
+
+fn call_touches(asked: usize, tried: usize, c: CallChange) -> Touched
+    ensures { λ r. ⌜ r ≡ touchedByCall asked tried c ⌝ }
 {
     match c {
         CallChange::Nothing => Touched::Nothing,
-        CallChange::Asks(_, _) => Touched::Asked,
-        CallChange::Tries(_, _) => Touched::Tried,
-        CallChange::Cancels(_, _) => Touched::Tried,
+        CallChange::Asks(p, q) => asked_at(asked, p, q),
+        CallChange::Tries(p, a) => tried_at(tried, p, a),
+        CallChange::Cancels(p, a) => tried_at(tried, p, a),
     }
 }
 
-fn input_touches(c: InputChange) -> Touched
-    ensures { λ r. ⌜ r ≡ touchedByInput c ⌝ }
+fn input_touches(asked: usize, tried: usize, c: InputChange) -> Touched
+    ensures { λ r. ⌜ r ≡ touchedByInput asked tried c ⌝ }
 {
     match c {
         InputChange::Nothing => Touched::Nothing,
-        InputChange::Ends(_, _) => Touched::Tried,
+        InputChange::Ends(p, a) => tried_at(tried, p, a),
         InputChange::Retries(_, _, _) => Touched::Brought,
-        InputChange::Holds(_, _) => Touched::Answered,
-        InputChange::Empties(_, _) => Touched::Brought,
+        InputChange::Holds(p, q) => answered_at(asked, p, q),
+        InputChange::Empties(p, q) => emptied_at(asked, p, q),
         InputChange::Offers(_, _, _) => Touched::Brought,
     }
 }
 
-pub fn touched_of(change: Change) -> Touched
-    ensures { λ r. ⌜ r ≡ touchedOf change ⌝ }
+// With so many query records and attempts before.
+pub fn touched_of(asked: usize, tried: usize, change: Change) -> Touched
+    ensures { λ r. ⌜ r ≡ touchedOf asked tried change ⌝ }
 {
     match change {
         Change::Nothing => Touched::Nothing,
-        Change::Called(c) => call_touches(c),
-        Change::Fed(c) => input_touches(c),
+        Change::Called(c) => call_touches(asked, tried, c),
+        Change::Fed(c) => input_touches(asked, tried, c),
     }
 }

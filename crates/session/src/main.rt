@@ -5,10 +5,11 @@ ghost use Prim.Native.Nat.{_≤_};
 ghost use lib.ListN.{length};
 use configuration::SetupRead;
 use configuration::read_configuration;
-use console::complain;
 use console::number;
 use console::text;
-use libc::STDIN_FILENO;
+use intake::Next;
+use intake::least;
+use intake::next_tape;
 use live::Called;
 use live::lent::input_lent;
 use live::lent::output_lent;
@@ -186,60 +187,24 @@ fn compared(tape: &[u8], told: &mut [u8], live: &mut [u8]) {
     }
 }
 
-fn wide(b: u8) -> u64 {
-    b as u64
-}
-
-// A number in 8 bytes, low byte first, from the place at on.
-fn eight(head: &[u8; 16], at: usize) -> u64
-    requires { ⌜ at ≤ 8 ⌝ }
-{
-    let mut v: u64 = 0;
-    let mut k: usize = 8;
-    while 0 < k {
-        k -= 1;
-        v = (v << 8) | wide(head[at + k]);
-    }
-    v
-}
-
-fn least(a: u64, b: usize) -> usize
-    ensures { λ r. ⌜ r ≤ b ⌝ }
-{
-    if a < b as u64 { a as usize } else { b }
-}
-
-// Reads a tape and holds the two ways of answering it against each other; false if the input has no such tape.
-fn one(tape: &mut [u8], told: &mut [u8], live: &mut [u8], long: u64, room: u64) -> bool {
-    if (tape.len() as u64) < long {
-        complain(b"session: a tape of more than 65,536 bytes\n");
-        return false;
-    }
-    let n = long as usize;
-    let got = io::read_full(STDIN_FILENO, &mut tape[..n]);
-    if got < n {
-        complain(b"session: the input ends inside a tape\n");
-        return false;
-    }
+// Holds the two ways of answering the tape of this length that stands in the buffer against each other.
+fn one(tape: &[u8], told: &mut [u8], live: &mut [u8], long: u64, room: u64) {
+    let n = least(long, tape.len());
     let m = least(room, told.len());
     let k = least(room, live.len());
     compared(&tape[..n], &mut told[..m], &mut live[..k]);
-    true
 }
 
+// The next tape; false if there is none.
 fn next(tape: &mut [u8; TAPE], told: &mut [u8; ROOM], live: &mut [u8; ROOM]) -> bool {
-    let mut head = [0u8; 16];
-    let got = io::read_full(STDIN_FILENO, &mut head);
-    if got == 0 {
-        return false;
+    let t = next_tape(tape, b"session");
+    match t {
+        Next::End => false,
+        Next::Tape(long, room) => {
+            one(tape, told, live, long, room);
+            true
+        }
     }
-    if got < 16 {
-        complain(b"session: the input ends before a tape\n");
-        return false;
-    }
-    let long = eight(&head, 0);
-    let room = eight(&head, 8);
-    one(tape, told, live, long, room)
 }
 
 fn main() {

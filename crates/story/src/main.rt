@@ -1,9 +1,6 @@
 // Tells a tape from standard input in words: one entry an event and one an answer, then what the race came to.
 ghost use Prim.Native.Nat.{_≤_};
 ghost use lib.ListN.{length};
-
-mod summary;
-
 use bodies::EventRead;
 use bodies::read_event;
 use configuration::SetupRead;
@@ -12,10 +9,13 @@ use course::Course;
 use course::Point;
 use course::course_after;
 use course::no_course;
+use entries::host::event;
+use entries::setup::setup;
 use libc::STDERR_FILENO;
 use libc::STDIN_FILENO;
 use numbers::field::SpanRead;
 use numbers::refusal::refusal_number;
+use outcome::show_summary;
 use reader::Answer;
 use reader::AnswerRead;
 use reader::answer_at;
@@ -24,15 +24,12 @@ use replay::frames::configuration_at;
 use replay::frames::frame_at;
 use replay::run::Replayed;
 use replay::tape::replay;
-use summary::show_summary;
 use telling::lines::show_first;
 use telling::piece::around;
 use telling::piece::since;
 use telling::piece::text;
-use wording::host::event;
 use wording::reply::answer;
 use wording::reply::fault_place;
-use wording::setup::setup;
 use wording::words::refusal;
 
 // Room for the answers to any tape of 65,536 bytes: an answer has at most 11 bytes, but for 16 queries, 16 refreshes and 32 attempts.

@@ -1,5 +1,3 @@
-// A tape in words: its configuration, what the host says and what the machine answers.
-pub mod host;
+// What the machine says, in words.
 pub mod reply;
-pub mod setup;
 pub mod words;

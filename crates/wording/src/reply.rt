@@ -10,9 +10,11 @@ use parts::address::AddrRead;
 use parts::address::read_four;
 use parts::address::read_six;
 use reader::Answer;
+use reader::AnswerRead;
 use reader::EchSpan;
 use reader::EndpointSpan;
 use reader::TargetSpan;
+use reader::answer_at;
 use records::queries::Kind;
 use telling::address::four;
 use telling::address::six;
@@ -135,6 +137,15 @@ pub fn answer(out: &mut [u8], at: usize, s: &[u8], a: Answer) -> usize {
         Answer::Failed(r) => failed(out, at, r),
         Answer::Full(t) => full(out, at, t),
         Answer::Taken(n) => taken(out, at, n),
+    }
+}
+
+// The answer at a place, in words.
+pub fn said_at(out: &mut [u8], at: usize, answers: &[u8], place: usize) -> usize {
+    let r = answer_at(answers, place);
+    match r {
+        AnswerRead::Refused(_) => at,
+        AnswerRead::Answer(a, _) => answer(out, at, answers, a),
     }
 }
 

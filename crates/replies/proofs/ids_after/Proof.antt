@@ -1,4 +1,4 @@
--- `replay::reply::ids_after` meets its contract, by who made the change.
+-- `replies::ids_after` meets its contract, by who made the change.
 use borrow.Author.Needs.{needs}
 use Rattle.replies.proofs.ids_after.Statement.{statement}
 use Rattle.replies.proofs.ids_after.Tie as tie

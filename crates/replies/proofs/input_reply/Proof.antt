@@ -1,4 +1,4 @@
--- `replay::reply::input_reply` meets its contract.
+-- `replies::input_reply` meets its contract.
 use borrow.Author.Needs.{needs}
 use Rattle.replies.proofs.input_reply.Statement.{statement}
 use Rattle.replies.proofs.input_reply.Tie as tie

@@ -1,5 +1,8 @@
-//! Times the proved listing against the original's `endpoints_to_attempt`: see differential/README.md.
+//! Times the proved code against the original, whole races and the listing: see differential/README.md.
 
+mod long;
+mod proved;
+mod races;
 mod states;
 
 use compare::play::ask;
@@ -20,6 +23,14 @@ const BATCHES: usize = 300;
 const BATCH_NS: f64 = 200_000.0;
 
 fn main() {
+    races::run();
+    println!();
+    long::run();
+    println!();
+    listings();
+}
+
+fn listings() {
     assert!(listing::THERE, "no archive of the proved listing: `rt staticlib probes`");
     let mut races: Vec<Race> = states::all().iter().map(Race::at).collect();
     for _ in 0..TURNS {

@@ -1,4 +1,4 @@
 //! The original behind document 01's bytes, for the judge and the benchmark.
 
 pub mod adapter;
-mod decode;
+pub mod decode;

@@ -2,30 +2,41 @@
 use Prim.Native.Nat.{ℕ, _+_, _-_, _<_}
 use mathlib.Core.Path.{_≡_, sym, ap, _∙_}
 use native.Mathlib.Omega.{arith}
+use mathlib.Core.Logic.{⊎-elim}
 use mathlib.Core.List.{List}
 use lib.ListN.{length, take, drop}
 use Rattle.numbers.specs.Got.{got}
 use Rattle.numbers.specs.Fields.{spanBytes}
 use Rattle.numbers.specs.Put.{putAnswer, putBytes}
 use Rattle.numbers.specs.Shown.{wroteShown}
-use Rattle.upcoming.specs.Alike.{alikeOf}
+use Rattle.records.specs.Classes.{sameClass}
+use Rattle.upcoming.specs.Alike.{alikeEndpoints, alikeOf}
 use Rattle.state.specs.State.{made}
 use Rattle.state.specs.declared.Machine.{Machine}
 use Rattle.bodies.specs.Told.{besideOf}
 use Rattle.answers.specs.Answers.{answerBytes}
+use Rattle.input.specs.declared.Input.{Input}
+use Rattle.input.specs.declared.Verdict.{Verdict}
+use Rattle.machine.specs.Output.{foundBy}
+use Rattle.machine.specs.declared.grant.Turn.{Turn}
+use Rattle.machine.proofs.Looking.{found-nothing}
+use Rattle.replies.specs.Replies.{callReply}
+use Rattle.replies.specs.declared.Reply.{Reply}
 use Rattle.replies.specs.declared.Touched.{Touched}
+use Rattle.replies.proofs.Replying.{refused-by, called-by, fed-by}
 use Rattle.replay.specs.Replay.{Step, stepOf}
 use Rattle.replay.specs.Frames.{Frame, frameAt, frameShown}
 use Rattle.replay.proofs.Framed.{Lies, frame-lies}
-use Rattle.replay.proofs.Steps.{stepIn, partsBy, few-calls, parts, made-parts, step-made, said-in, name-inside, ech-inside, parts-after}
-use Rattle.replay.proofs.Turning.{Tied, tied-start, tied-go, tied-brought, tied-end, tied-refused, tied-full, stopped, did-not}
+use Rattle.replay.proofs.Wished.{Sized, made-sized, query-sized, attempt-sized, fed-sized, Inside, seen-inside, granted-at}
+use Rattle.replay.proofs.Steps.{turnFor, verdictFor, Decides, turn-seen, stepIn, partsBy, Within, within, few-calls, parts, made-parts, step-made, said-in, name-inside, ech-inside}
+use Rattle.replay.proofs.Turning.{Tied, tied-start, tied-go, tied-by, tied-brought, tied-end, tied-refused, tied-full, stopped, did-not}
 use borrow.Author.Needs.{needs}
 use Rattle.replay.proofs.run.run.Statement.{statement}
 use Rattle.replay.proofs.run.run.Tie as tie
 
 abbrev Inv-loop : tie.InvT-loop
 Inv-loop tape out₀ first rules timing alts ids₀ queries₀ answers₀ services₀ attempts₀ retries₀ names₀ echs₀ alike₀ at₀ written₀ calls₀ out ids queries answers services attempts retries names echs alike at written calls =
-    Tied tape out₀ first (parts rules timing alts ids₀ queries₀ answers₀ services₀ attempts₀ retries₀ names₀ echs₀) at written calls out (parts rules timing alts ids queries answers services attempts retries names echs) × (alike ≡ alikeOf names echs)
+    Tied tape out₀ first (parts rules timing alts ids₀ queries₀ answers₀ services₀ attempts₀ retries₀ names₀ echs₀) at written calls out (parts rules timing alts ids queries answers services attempts retries names echs) × (alike ≡ alikeOf names echs) × Sized queries attempts
 
 abbrev μ-loop : tie.MeasureT-loop
 μ-loop tape out₀ first rules timing alts ids₀ queries₀ answers₀ services₀ attempts₀ retries₀ names₀ echs₀ alike₀ at₀ written₀ calls₀ out ids queries answers services attempts retries names echs alike at written calls =
@@ -64,6 +75,60 @@ came c = sym (ap frameShown (c .f2 .given .1)) ∙ c .before .before .frame-at .
 lies : (c : tie.After-f2 Inv-loop μ-loop) → Lies (entry (framed c) .args .tape .now) (framed c .loop .at) (frame c .body) (after c)
 lies c = frame-lies _ _ _ _ (came c)
 
+-- what is known of a body that was read
+abbrev ahead : tie.After-event-in Inv-loop μ-loop → tie.At-loop Inv-loop μ-loop
+ahead c = c .before .before .before .before .before .before .before .before
+
+abbrev Decided : tie.After-event-in Inv-loop μ-loop → Reply → Type 0
+Decided c x = Decides (held (ahead c)) (ahead c .loop .alike) (frame (c .before .before .before .before) .moment) (c .before .read-event .result) x
+
+-- what a call would be given, and what becomes of an input
+abbrev given : tie.After-event-in Inv-loop μ-loop → Turn
+given c = turnFor (held (ahead c)) (ahead c .loop .alike) (frame (c .before .before .before .before) .moment)
+
+abbrev judging : tie.After-event-in Inv-loop μ-loop → Input → Verdict
+judging c = verdictFor (held (ahead c)) (frame (c .before .before .before .before) .moment)
+
+refused-reply : (c : tie.After-fault-reply Inv-loop μ-loop) → Decided (c .before .before .before .before) (c .fault-reply .result)
+refused-reply c = let e = c .before .before .before .before in refused-by (given e) (judging e) (c .before .before .read .given .1) (c .fault-reply .ensures)
+
+-- a call: what is found, what the wish is about, and what is given
+found-there : (c : tie.Joined2 Inv-loop μ-loop)
+    → c .if2 .found ≡ foundBy (sameClass (ahead (c .before .before .before .before .before .before .before .before .before .before) .loop .alike .names)) (alikeEndpoints (ahead (c .before .before .before .before .before .before .before .before .before .before) .loop .alike .hosts) (ahead (c .before .before .before .before .before .before .before .before .before .before) .loop .alike .echs)) (c .before .before .before .before .before .survey-of .result .look) (c .before .before .before .before .before .survey-of .result .asks .asked) (held (ahead (c .before .before .before .before .before .before .before .before .before .before)) .rules) (held (ahead (c .before .before .before .before .before .before .before .before .before .before)) .alts) (held (ahead (c .before .before .before .before .before .before .before .before .before .before)) .queries) (held (ahead (c .before .before .before .before .before .before .before .before .before .before)) .answers) (held (ahead (c .before .before .before .before .before .before .before .before .before .before)) .services) (held (ahead (c .before .before .before .before .before .before .before .before .before .before)) .attempts) (held (ahead (c .before .before .before .before .before .before .before .before .before .before)) .retries)
+found-there c = ⊎-elim (λ w. w .2 ∙ w .1 .ensures) (λ w. w .1 ∙ sym (found-nothing _ _ _ _ _ _ _ _ _ _ _ (sym (c .before .looks .ensures) ∙ w .0 .left))) (c .if2 .came)
+
+wished : (c : tie.After-wish-of Inv-loop μ-loop) → Inside (c .wish-of .result)
+wished c = seen-inside _ _ _ _ _ _ _ _ _ _ (ahead (c .before .before .before .before .before .before .before .before .before .before .before) .loop .inv .2) (c .before .before .before .before .before .before .survey-of .ensures) (c .wish-of .ensures)
+
+asked-place : (c : tie.After-wish-attempt Inv-loop μ-loop) → c .before .wish-query .result < 16
+asked-place c = omega (arith, c .before .wish-query .ensures, wished (c .before .before) .0)
+
+tried-place : (c : tie.After-q Inv-loop μ-loop) → c .before .wish-attempt .result < 32
+tried-place c = omega (arith, c .before .wish-attempt .ensures, wished (c .before .before .before) .1)
+
+called-reply : (c : tie.After-call-reply Inv-loop μ-loop) → Decided (c .before .before .before .before .before .before .before .before .before .before .before .before .before .before .before .before .before) (c .call-reply .result)
+called-reply c =
+    let w = c .before .before .before .before .before .before in
+    let s = w .before .before .before .before .before .before in
+    let e = s .before .before .before .before .before in
+    let m = held (ahead e) in
+    called-by (given e) (judging e) (s .before .before .before .enum-told .given .1) (e .event-in .ensures) (sym (s .before .before .is-call .ensures) ∙ s .before .if1 .taken)
+    (c .call-reply .ensures ∙ ap callReply (turn-seen _ _ m (frame (e .before .before .before .before) .moment) (s .survey-of .ensures) (found-there (w .before)) (w .wish-of .ensures) (granted-at (m .queries) (m .attempts) (m .ids) (w .wish-of .result) (frame (e .before .before .before .before) .moment) (c .before .before .before .before .before .wish-query .ensures) (c .before .before .before .before .wish-attempt .ensures) (c .before .grant-of .ensures))))
+
+fed-reply : (c : tie.After-input-reply Inv-loop μ-loop) → Decided (c .before .before .before .before .before .before .before) (c .input-reply .result)
+fed-reply c =
+    let i = c .before .before .before in
+    let e = i .before .before .before .before in
+    fed-by (given e) (judging e) (i .before .before .enum-told .given .1) (e .event-in .ensures) (sym (i .before .is-call .ensures) ∙ i .if1 .left) (c .before .before .input-of .ensures) (c .before .verdict-of .ensures) (c .input-reply .ensures)
+
+-- where the three ways meet
+replying : (c : tie.At-match2-came Inv-loop μ-loop) → Decided (c .before) (c .match2 .reply)
+replying c =
+    ⊎-elim (λ w. w .4 ∙ refused-reply (record { before = record { before = record { before = record { before = c .before; match2 = w .0 }; read = w .1 }; known-told3 = w .2 }; fault-reply = w .3 }))
+    (⊎-elim (λ w. w .17 ∙ called-reply (record { before = record { before = record { before = record { before = record { before = record { before = record { before = record { before = record { before = record { before = record { before = record { before = record { before = record { before = record { before = record { before = record { before = c .before; match2 = w .0 }; enum-told = w .1 }; is-call = w .2 }; if1 = w .3 }; survey-of = w .4 }; tries = w .5 }; asks = w .6 }; look = w .7 }; looks = w .8 }; if2 = w .9 }; wish-of = w .10 }; wish-query = w .11 }; wish-attempt = w .12 }; q = w .13 }; a = w .14 }; grant-of = w .15 }; call-reply = w .16 }))
+    (λ w. w .7 ∙ fed-reply (record { before = record { before = record { before = record { before = record { before = record { before = record { before = c .before; match2 = w .0 }; enum-told = w .1 }; is-call = w .2 }; if1 = w .3 }; input-of = w .4 }; verdict-of = w .5 }; input-reply = w .6 })))
+    (c .match2 .came)
+
 -- what is known of an event that was answered
 abbrev top : tie.After-put-answer Inv-loop μ-loop → tie.At-loop Inv-loop μ-loop
 top c = c .before .before .before .before .before .before .before .before .before .before .before .before .before .before .before .before
@@ -71,48 +136,59 @@ top c = c .before .before .before .before .before .before .before .before .befor
 abbrev in-frame : tie.After-put-answer Inv-loop μ-loop → tie.After-f2 Inv-loop μ-loop
 in-frame c = c .before .before .before .before .before .before .before .before .before .before .before .before
 
-abbrev replied : tie.After-put-answer Inv-loop μ-loop → tie.After-reply-to Inv-loop μ-loop
+abbrev replied : tie.After-put-answer Inv-loop μ-loop → tie.At-match2-came Inv-loop μ-loop
 replied c = c .before .before .before .before .before .before .before
 
 abbrev bytes : tie.After-put-answer Inv-loop μ-loop → List ℕ
 bytes c = take (after (in-frame c) - frame (in-frame c) .body .start) (drop (frame (in-frame c) .body .start) (entry (top c) .args .tape .now))
 
 abbrev stepped : tie.After-put-answer Inv-loop μ-loop → Step
-stepped c = stepIn (held (top c)) (replied c .reply-to .result) (besideOf (bytes c) (replied c .before .event-in .result))
+stepped c = stepIn (held (top c)) (replied c .match2 .reply) (besideOf (bytes c) (replied c .before .event-in .result))
 
 step : (c : tie.After-put-answer Inv-loop μ-loop) → stepped c ≡ stepOf (held (top c)) (frame (in-frame c) .moment) (spanBytes (entry (top c) .args .tape .now) (frame (in-frame c) .body))
 step c =
-    step-made (held (top c)) (top c .loop .alike) (frame (in-frame c) .moment) (spanBytes (entry (top c) .args .tape .now) (frame (in-frame c) .body)) (bytes c) (replied c .before .before .read-event .result) (replied c .before .event-in .result) (replied c .reply-to .result) (top c .loop .inv .1) (lies (in-frame c) .bytes) (replied c .before .before .read-event .ensures) (replied c .before .event-in .ensures) (replied c .reply-to .ensures)
+    step-made (held (top c)) (top c .loop .alike) (frame (in-frame c) .moment) (spanBytes (entry (top c) .args .tape .now) (frame (in-frame c) .body)) (bytes c) (replied c .before .before .read-event .result) (replied c .before .event-in .result) (replied c .match2 .reply) (top c .loop .inv .1) (lies (in-frame c) .bytes) (replied c .before .before .read-event .ensures) (replied c .before .event-in .ensures) (replying (replied c))
 
 shown : (c : tie.After-put-answer Inv-loop μ-loop) → wroteShown (c .put-answer .result) ≡ putAnswer (top c .loop .out) (top c .loop .written) (answerBytes (stepped c .said))
 shown c =
     let a = c .before .before .before .before .before in
-    c .put-answer .ensures .0 ∙ ap (λ s. putAnswer (top c .loop .out) (top c .loop .written) (answerBytes s)) (said-in (held (top c)) (replied c .reply-to .result .answer) _ _ (a .before .answer-name .ensures) (a .answer-ech .ensures))
+    c .put-answer .ensures .0 ∙ ap (λ s. putAnswer (top c .loop .out) (top c .loop .written) (answerBytes s)) (said-in (held (top c)) (replied c .match2 .reply .answer) _ _ (a .before .answer-name .ensures) (a .answer-ech .ensures))
 
 stored : (c : tie.After-put-answer Inv-loop μ-loop) → c .put-answer .last .0 ≡ putBytes (top c .loop .out) (top c .loop .written) (answerBytes (stepped c .said))
 stored c =
     let a = c .before .before .before .before .before in
-    c .put-answer .ensures .1 ∙ ap (λ s. putBytes (top c .loop .out) (top c .loop .written) (answerBytes s)) (said-in (held (top c)) (replied c .reply-to .result .answer) _ _ (a .before .answer-name .ensures) (a .answer-ech .ensures))
+    c .put-answer .ensures .1 ∙ ap (λ s. putBytes (top c .loop .out) (top c .loop .written) (answerBytes s)) (said-in (held (top c)) (replied c .match2 .reply .answer) _ _ (a .before .answer-name .ensures) (a .answer-ech .ensures))
+
+-- what is known of an event whose change is stored
+abbrev answered : tie.After-touched-of Inv-loop μ-loop → tie.After-put-answer Inv-loop μ-loop
+answered c = c .before .before .before .before .before .before .before
+
+abbrev began : tie.After-touched-of Inv-loop μ-loop → tie.At-loop Inv-loop μ-loop
+began c = top (answered c)
 
 -- every arm that goes on: the parts are as the change leaves them
 goes : (c : tie.After-touched-of Inv-loop μ-loop) {t : Touched} → c .touched-of .result ≡ t
-    → Tied (entry (top (c .before .before .before .before .before .before .before)) .args .tape .now) (entry (top (c .before .before .before .before .before .before .before)) .args .out .now) (entry (top (c .before .before .before .before .before .before .before)) .args .first) (begun (top (c .before .before .before .before .before .before .before))) (after (in-frame (c .before .before .before .before .before .before .before))) (c .before .before .before .wrote .given .0 .0)
-    (top (c .before .before .before .before .before .before .before) .loop .calls + replied (c .before .before .before .before .before .before .before) .reply-to .result .calls) (c .before .before .before .before .before .before .before .put-answer .last .0)
-    (partsBy t (held (top (c .before .before .before .before .before .before .before))) (replied (c .before .before .before .before .before .before .before) .reply-to .result .change) (besideOf (bytes (c .before .before .before .before .before .before .before)) (replied (c .before .before .before .before .before .before .before) .before .event-in .result)))
+    → Tied (entry (began c) .args .tape .now) (entry (began c) .args .out .now) (entry (began c) .args .first) (begun (began c)) (after (in-frame (answered c))) (c .before .before .before .wrote .given .0 .0)
+    (began c .loop .calls + replied (answered c) .match2 .reply .calls) (answered c .put-answer .last .0)
+    (partsBy t (held (began c)) (replied (answered c) .match2 .reply .change) (besideOf (bytes (answered c)) (replied (answered c) .before .event-in .result)))
 goes c told =
-    let y = c .before .before .before .before .before .before .before in
+    let y = answered c in
     let h = top y in
-    rw (← told, c .touched-of .ensures, ← parts-after (held h) (replied y .reply-to .result .change) (besideOf (bytes y) (replied y .before .event-in .result)))
+    tied-by _ _ _ _ _ _ _ _ (held h) (replied y .match2 .reply .change) (besideOf (bytes y) (replied y .before .event-in .result)) (c .touched-of .ensures) told
     (tied-go (entry h .args .tape .now) (entry h .args .out .now) (entry h .args .first) (begun h) (h .loop .at) (h .loop .written) (h .loop .calls) (h .loop .out) (held h) (came (in-frame y)) (step y) (h .loop .inv .0) (y .before .before .before .before .before .before .before .before .before .before .before .before .before .before .before .loop-test .taken) (sym (ap wroteShown (c .before .before .before .wrote .given .1)) ∙ shown y) (stored y))
 
-less : (c : tie.After-touched-of Inv-loop μ-loop) → length (entry (top (c .before .before .before .before .before .before .before)) .args .tape .now) - after (in-frame (c .before .before .before .before .before .before .before)) < length (entry (top (c .before .before .before .before .before .before .before)) .args .tape .now) - top (c .before .before .before .before .before .before .before) .loop .at
-less c = let y = c .before .before .before .before .before .before .before in omega (arith, lies (in-frame y) .before, y .before .before .before .before .before .before .before .before .before .before .before .before .before .before .before .loop-test .taken)
+less : (c : tie.After-touched-of Inv-loop μ-loop) → length (entry (began c) .args .tape .now) - after (in-frame (answered c)) < length (entry (began c) .args .tape .now) - began c .loop .at
+less c = let y = answered c in omega (arith, lies (in-frame y) .before, y .before .before .before .before .before .before .before .before .before .before .before .before .before .before .before .loop-test .taken)
+
+-- the place of what is stored lies inside its table
+inside : (c : tie.After-touched-of Inv-loop μ-loop) {t : Touched} → c .touched-of .result ≡ t → Within t
+inside c told = rw (← told, c .touched-of .ensures) (within (held (began c)) (replied (answered c) .match2 .reply .change))
 
 named : (c : tie.After-answer-name Inv-loop μ-loop) → c .answer-name .result < 14
-named c = rw (c .answer-name .ensures) (name-inside (c .before .reply-to .result .answer))
+named c = rw (c .answer-name .ensures) (name-inside (c .before .match2 .reply .answer))
 
 sealed : (c : tie.After-answer-ech Inv-loop μ-loop) → c .answer-ech .result < 40
-sealed c = rw (c .answer-ech .ensures) (ech-inside (c .before .before .reply-to .result .answer))
+sealed c = rw (c .answer-ech .ensures) (ech-inside (c .before .before .match2 .reply .answer))
 
 made-requires : tie.Need-made-requires Inv-loop μ-loop
 made-requires c κs = search needs
@@ -121,7 +197,7 @@ alike-of-requires : tie.Need-alike-of-requires Inv-loop μ-loop
 alike-of-requires c κs = search needs
 
 loop-holds : tie.Need-loop-holds Inv-loop μ-loop
-loop-holds c = (tied-start _ _ _ _, c .alike-of .ensures)
+loop-holds c = (tied-start _ _ _ _, c .alike-of .ensures, made-sized _ _ _ _ _ (c .before .before .before .before .before .before .before .before .before .made .ensures))
 
 frame-at-requires : tie.Need-frame-at-requires Inv-loop μ-loop
 frame-at-requires c κs = search needs
@@ -161,8 +237,62 @@ read-event-requires c κs = search needs
 event-in-requires : tie.Need-event-in-requires Inv-loop μ-loop
 event-in-requires c κs = search needs
 
-reply-to-requires : tie.Need-reply-to-requires Inv-loop μ-loop
-reply-to-requires c κs = search needs
+enum-known-read : tie.Need-enum-known-read Inv-loop μ-loop
+enum-known-read c = search needs
+
+fault-reply-requires : tie.Need-fault-reply-requires Inv-loop μ-loop
+fault-reply-requires c κs = search needs
+
+enum-told : tie.Need-enum-told Inv-loop μ-loop
+enum-told c = search needs
+
+is-call-requires : tie.Need-is-call-requires Inv-loop μ-loop
+is-call-requires c κs = search needs
+
+survey-of-requires : tie.Need-survey-of-requires Inv-loop μ-loop
+survey-of-requires c κs = search needs
+
+looks-requires : tie.Need-looks-requires Inv-loop μ-loop
+looks-requires c κs = search needs
+
+found-of-requires : tie.Need-found-of-requires Inv-loop μ-loop
+found-of-requires c κs = search needs
+
+wish-of-requires : tie.Need-wish-of-requires Inv-loop μ-loop
+wish-of-requires c κs = search needs
+
+wish-query-requires : tie.Need-wish-query-requires Inv-loop μ-loop
+wish-query-requires c κs = search needs
+
+wish-attempt-requires : tie.Need-wish-attempt-requires Inv-loop μ-loop
+wish-attempt-requires c κs = search needs
+
+mul-q : tie.Need-mul-q Inv-loop μ-loop
+mul-q c = omega (arith, asked-place c)
+
+element-copy-out-q : tie.Need-element-copy-out-q Inv-loop μ-loop
+element-copy-out-q c = asked-place c
+
+mul-a : tie.Need-mul-a Inv-loop μ-loop
+mul-a c = omega (arith, tried-place c)
+
+element-copy-out-a : tie.Need-element-copy-out-a Inv-loop μ-loop
+element-copy-out-a c = tried-place c
+
+grant-of-requires : tie.Need-grant-of-requires Inv-loop μ-loop
+grant-of-requires c κs = search needs
+
+call-reply-requires : tie.Need-call-reply-requires Inv-loop μ-loop
+call-reply-requires c κs = search needs
+
+input-of-requires : tie.Need-input-of-requires Inv-loop μ-loop
+input-of-requires c κs = search needs
+
+verdict-of-requires : tie.Need-verdict-of-requires Inv-loop μ-loop
+verdict-of-requires c κs = search needs
+
+input-reply-requires : tie.Need-input-reply-requires Inv-loop μ-loop
+input-reply-requires c κs = search needs
 
 answer-name-requires : tie.Need-answer-name-requires Inv-loop μ-loop
 answer-name-requires c κs = search needs
@@ -188,8 +318,8 @@ element-copy-out-ech c = sealed (c .before .before)
 put-answer-requires : tie.Need-put-answer-requires Inv-loop μ-loop
 put-answer-requires c κs = search needs
 
-enum-told : tie.Need-enum-told Inv-loop μ-loop
-enum-told c = search needs
+enum-told-2 : tie.Need-enum-told-2 Inv-loop μ-loop
+enum-told-2 c = search needs
 
 same-length-2 : tie.Need-same-length-2 Inv-loop μ-loop
 same-length-2 c = c .before .before .before .out .given ∙ c .before .before .before .before .before .before .before .before .before .before .before .before .before .before .before .before .before .before .before .before .loop .inv .0 .long
@@ -198,7 +328,7 @@ returns-2 : tie.Need-returns-2 Inv-loop μ-loop
 returns-2 c =
     let y = c .before .before .before .before in
     let h = top y in
-    let full = sym (ap wroteShown (c .enum-told .given .1)) ∙ shown y in
+    let full = sym (ap wroteShown (c .enum-told2 .given .1)) ∙ shown y in
     let r =
     stopped _ _ _ _ _ _ _
     (tied-full (entry h .args .tape .now) (entry h .args .out .now) (entry h .args .first) (begun h) (h .loop .at) (h .loop .written) (h .loop .calls) (h .loop .out) (held h) (came (in-frame y)) (step y) (h .loop .inv .0) (y .before .before .before .before .before .before .before .before .before .before .before .before .before .before .before .loop-test .taken) full) in
@@ -218,79 +348,105 @@ add-calls c =
     let h = top y in
     omega (arith, short h, h .loop .inv .0 .few, y .before .before .before .before .before .before .before .before .before .before .before .before .before .before .before .loop-test .taken, few-calls (held h) (frame (in-frame y) .moment) (spanBytes (entry h .args .tape .now) (frame (in-frame y) .body)), ap (λ x. x .calls) (step y))
 
-change-in-requires : tie.Need-change-in-requires Inv-loop μ-loop
-change-in-requires c κs = search needs
+ids-after-requires : tie.Need-ids-after-requires Inv-loop μ-loop
+ids-after-requires c κs = search needs
 
 touched-of-requires : tie.Need-touched-of-requires Inv-loop μ-loop
 touched-of-requires c κs = search needs
 
-enum-told-2 : tie.Need-enum-told-2 Inv-loop μ-loop
-enum-told-2 c = search needs
+enum-told-3 : tie.Need-enum-told-3 Inv-loop μ-loop
+enum-told-3 c = search needs
 
 loop-less : tie.Need-loop-less Inv-loop μ-loop
 loop-less c = less (c .before .before)
 
 loop-again : tie.Need-loop-again Inv-loop μ-loop
-loop-again c = (goes (c .before .before) (c .enum-told2 .given .1), c .before .before .before .before .before .before .before .before .before .before .before .before .before .before .before .before .before .before .before .before .before .before .before .before .before .loop .inv .1)
+loop-again c = (rw (c .before .before .before .ids-after .ensures) (goes (c .before .before) (c .enum-told3 .given .1)), began (c .before .before) .loop .inv .1, began (c .before .before) .loop .inv .2)
 
-enum-told-3 : tie.Need-enum-told-3 Inv-loop μ-loop
-enum-told-3 c = search needs
+enum-known-touched : tie.Need-enum-known-touched Inv-loop μ-loop
+enum-known-touched c = search needs
 
-ids-after-requires : tie.Need-ids-after-requires Inv-loop μ-loop
-ids-after-requires c κs = search needs
+mul-q-2 : tie.Need-mul-q-2 Inv-loop μ-loop
+mul-q-2 c = omega (arith, inside (c .before .before .before) (c .before .touched .given .1))
 
-queries-after-requires : tie.Need-queries-after-requires Inv-loop μ-loop
-queries-after-requires c κs = search needs
+element-set-from-q : tie.Need-element-set-from-q Inv-loop μ-loop
+element-set-from-q c = inside (c .before .before .before) (c .before .touched .given .1)
 
 loop-less-2 : tie.Need-loop-less-2 Inv-loop μ-loop
-loop-less-2 c = less (c .before .before .before .before)
+loop-less-2 c = less (c .before .before .before)
 
 loop-again-2 : tie.Need-loop-again-2 Inv-loop μ-loop
-loop-again-2 c = (rw (c .queries-after .ensures, c .before .ids-after .ensures) (goes (c .before .before .before .before) (c .before .before .enum-told3 .given .1)), c .before .before .before .before .before .before .before .before .before .before .before .before .before .before .before .before .before .before .before .before .before .before .before .before .before .before .before .loop .inv .1)
+loop-again-2 c = (rw (c .before .before .before .before .ids-after .ensures) (goes (c .before .before .before) (c .before .touched .given .1)), began (c .before .before .before) .loop .inv .1, query-sized (began (c .before .before .before) .loop .queries) (began (c .before .before .before) .loop .attempts) _ _ (began (c .before .before .before) .loop .inv .2))
 
-enum-told-4 : tie.Need-enum-told-4 Inv-loop μ-loop
-enum-told-4 c = search needs
+enum-known-touched-2 : tie.Need-enum-known-touched-2 Inv-loop μ-loop
+enum-known-touched-2 c = search needs
 
-ids-after-requires-2 : tie.Need-ids-after-requires-2 Inv-loop μ-loop
-ids-after-requires-2 c κs = search needs
+mul-a-2 : tie.Need-mul-a-2 Inv-loop μ-loop
+mul-a-2 c = omega (arith, inside (c .before .before .before) (c .before .touched2 .given .1))
 
-attempts-after-requires : tie.Need-attempts-after-requires Inv-loop μ-loop
-attempts-after-requires c κs = search needs
+element-set-from-a : tie.Need-element-set-from-a Inv-loop μ-loop
+element-set-from-a c = inside (c .before .before .before) (c .before .touched2 .given .1)
 
 loop-less-3 : tie.Need-loop-less-3 Inv-loop μ-loop
-loop-less-3 c = less (c .before .before .before .before)
+loop-less-3 c = less (c .before .before .before)
 
 loop-again-3 : tie.Need-loop-again-3 Inv-loop μ-loop
-loop-again-3 c = (rw (c .attempts-after .ensures, c .before .ids-after2 .ensures) (goes (c .before .before .before .before) (c .before .before .enum-told4 .given .1)), c .before .before .before .before .before .before .before .before .before .before .before .before .before .before .before .before .before .before .before .before .before .before .before .before .before .before .before .loop .inv .1)
+loop-again-3 c = (rw (c .before .before .before .before .ids-after .ensures) (goes (c .before .before .before) (c .before .touched2 .given .1)), began (c .before .before .before) .loop .inv .1, attempt-sized (began (c .before .before .before) .loop .queries) (began (c .before .before .before) .loop .attempts) _ _ (began (c .before .before .before) .loop .inv .2))
 
-enum-told-5 : tie.Need-enum-told-5 Inv-loop μ-loop
-enum-told-5 c = search needs
+enum-known-touched-3 : tie.Need-enum-known-touched-3 Inv-loop μ-loop
+enum-known-touched-3 c = search needs
 
-queries-after-requires-2 : tie.Need-queries-after-requires-2 Inv-loop μ-loop
-queries-after-requires-2 c κs = search needs
+mul-q-3 : tie.Need-mul-q-3 Inv-loop μ-loop
+mul-q-3 c = omega (arith, inside (c .before .before .before) (c .before .touched3 .given .1))
+
+element-set-from-q-2 : tie.Need-element-set-from-q-2 Inv-loop μ-loop
+element-set-from-q-2 c = inside (c .before .before .before) (c .before .touched3 .given .1)
 
 addresses-of-requires : tie.Need-addresses-of-requires Inv-loop μ-loop
 addresses-of-requires c κs = search needs
 
-answers-fed-requires : tie.Need-answers-fed-requires Inv-loop μ-loop
-answers-fed-requires c κs = search needs
+mul-l : tie.Need-mul-l Inv-loop μ-loop
+mul-l c = omega (arith, inside (c .before .before .before .before) (c .before .before .touched3 .given .1))
+
+element-set-from-l : tie.Need-element-set-from-l Inv-loop μ-loop
+element-set-from-l c = inside (c .before .before .before .before) (c .before .before .touched3 .given .1)
 
 loop-less-4 : tie.Need-loop-less-4 Inv-loop μ-loop
-loop-less-4 c = less (c .before .before .before .before .before)
+loop-less-4 c = less (c .before .before .before .before)
 
 loop-again-4 : tie.Need-loop-again-4 Inv-loop μ-loop
 unfolding besideOf
-loop-again-4 c =
-    (rw (c .answers-fed .ensures, c .before .addresses-of .ensures, c .before .before .queries-after2 .ensures, c .before .before .before .before .before .before .change-in .ensures) (goes (c .before .before .before .before .before) (c .before .before .before .enum-told5 .given .1)), c .before .before .before .before .before .before .before .before .before .before .before .before .before .before .before .before .before .before .before .before .before .before .before .before .before .before .before .before .loop .inv .1)
+loop-again-4 c = (rw (c .addresses-of .ensures, c .before .before .before .before .before .ids-after .ensures) (goes (c .before .before .before .before) (c .before .before .touched3 .given .1)), began (c .before .before .before .before) .loop .inv .1, query-sized (began (c .before .before .before .before) .loop .queries) (began (c .before .before .before .before) .loop .attempts) _ _ (began (c .before .before .before .before) .loop .inv .2))
 
-enum-told-6 : tie.Need-enum-told-6 Inv-loop μ-loop
-enum-told-6 c = search needs
+enum-known-touched-4 : tie.Need-enum-known-touched-4 Inv-loop μ-loop
+enum-known-touched-4 c = search needs
 
-queries-after-requires-3 : tie.Need-queries-after-requires-3 Inv-loop μ-loop
-queries-after-requires-3 c κs = search needs
+mul-q-4 : tie.Need-mul-q-4 Inv-loop μ-loop
+mul-q-4 c = omega (arith, inside (c .before .before .before) (c .before .touched4 .given .1))
 
-attempts-after-requires-2 : tie.Need-attempts-after-requires-2 Inv-loop μ-loop
-attempts-after-requires-2 c κs = search needs
+element-set-from-q-3 : tie.Need-element-set-from-q-3 Inv-loop μ-loop
+element-set-from-q-3 c = inside (c .before .before .before) (c .before .touched4 .given .1)
+
+no-services-requires : tie.Need-no-services-requires Inv-loop μ-loop
+no-services-requires c κs = search needs
+
+loop-less-5 : tie.Need-loop-less-5 Inv-loop μ-loop
+loop-less-5 c = less (c .before .before .before .before)
+
+loop-again-5 : tie.Need-loop-again-5 Inv-loop μ-loop
+loop-again-5 c = (rw (c .no-services .ensures, c .before .before .before .before .before .ids-after .ensures) (goes (c .before .before .before .before) (c .before .before .touched4 .given .1)), began (c .before .before .before .before) .loop .inv .1, query-sized (began (c .before .before .before .before) .loop .queries) (began (c .before .before .before .before) .loop .attempts) _ _ (began (c .before .before .before .before) .loop .inv .2))
+
+enum-told-4 : tie.Need-enum-told-4 Inv-loop μ-loop
+enum-told-4 c = search needs
+
+change-in-requires : tie.Need-change-in-requires Inv-loop μ-loop
+change-in-requires c κs = search needs
+
+queries-fed-requires : tie.Need-queries-fed-requires Inv-loop μ-loop
+queries-fed-requires c κs = search needs
+
+attempts-fed-requires : tie.Need-attempts-fed-requires Inv-loop μ-loop
+attempts-fed-requires c κs = search needs
 
 offered-of-requires : tie.Need-offered-of-requires Inv-loop μ-loop
 offered-of-requires c κs = search needs
@@ -313,17 +469,20 @@ echs-fed-requires c κs = search needs
 alike-of-requires-2 : tie.Need-alike-of-requires-2 Inv-loop μ-loop
 alike-of-requires-2 c κs = search needs
 
-loop-less-5 : tie.Need-loop-less-5 Inv-loop μ-loop
-loop-less-5 c = less (c .before .before .before .before .before .before .before .before .before .before .before .before .before .before)
+loop-less-6 : tie.Need-loop-less-6 Inv-loop μ-loop
+loop-less-6 c = less (c .before .before .before .before .before .before .before .before .before .before .before .before .before .before .before)
 
-loop-again-5 : tie.Need-loop-again-5 Inv-loop μ-loop
-loop-again-5 c =
+loop-again-6 : tie.Need-loop-again-6 Inv-loop μ-loop
+loop-again-6 c =
     let s = c .before .before .before .before in
     let o = s .before .before .before .before .before in
-    let y = c .before .before .before .before .before .before .before .before .before .before .before .before .before .before .before .before .before .before .before .before .before in (
-      tied-brought _ _ _ _ _ _ _ _ (held (top y)) (replied y .reply-to .result .change) (bytes y) (replied y .before .event-in .result) (c .before .before .before .before .before .before .before .before .before .before .before .before .before .before .before .change-in .ensures) (o .before .before .queries-after3 .ensures) (o .before .attempts-after2 .ensures) (o .offered-of .ensures) (s .before .retry-of .ensures) (s .services-fed .ensures) (c .before .before .before .retries-fed .ensures) (c .before .before .names-fed .ensures) (c .before .echs-fed .ensures)
-          (goes (c .before .before .before .before .before .before .before .before .before .before .before .before .before .before) (c .before .before .before .before .before .before .before .before .before .before .before .before .enum-told6 .given .1)),
+    let w = o .before .before .before in
+    let t = w .before .before .before in
+    let y = answered t in (
+      tied-brought _ _ _ _ _ _ _ _ (held (top y)) (replied y .match2 .reply .change) (bytes y) (replied y .before .event-in .result) (w .change-in .ensures) (t .before .ids-after .ensures) (o .before .before .queries-fed .ensures) (o .before .attempts-fed .ensures) (o .offered-of .ensures) (s .before .retry-of .ensures) (s .services-fed .ensures) (c .before .before .before .retries-fed .ensures) (c .before .before .names-fed .ensures) (c .before .echs-fed .ensures)
+          (goes t (w .before .enum-told4 .given .1)),
       c .alike-of2 .ensures,
+      fed-sized (top y .loop .queries) (top y .loop .attempts) (w .change-in .result) (o .before .before .queries-fed .ensures) (o .before .attempts-fed .ensures) (top y .loop .inv .2),
     )
 
 same-length-3 : tie.Need-same-length-3 Inv-loop μ-loop
@@ -356,7 +515,25 @@ run-spec =
     part-body-end
     read-event-requires
     event-in-requires
-    reply-to-requires
+    enum-known-read
+    fault-reply-requires
+    enum-told
+    is-call-requires
+    survey-of-requires
+    looks-requires
+    found-of-requires
+    wish-of-requires
+    wish-query-requires
+    wish-attempt-requires
+    mul-q
+    element-copy-out-q
+    mul-a
+    element-copy-out-a
+    grant-of-requires
+    call-reply-requires
+    input-of-requires
+    verdict-of-requires
+    input-reply-requires
     answer-name-requires
     answer-ech-requires
     element-copy-out-origin
@@ -365,35 +542,44 @@ run-spec =
     mul-ech
     element-copy-out-ech
     put-answer-requires
-    enum-told
+    enum-told-2
     same-length-2
     returns-2
     enum-known-wrote
     add-calls
-    change-in-requires
+    ids-after-requires
     touched-of-requires
-    enum-told-2
+    enum-told-3
     loop-less
     loop-again
-    enum-told-3
-    ids-after-requires
-    queries-after-requires
+    enum-known-touched
+    mul-q-2
+    element-set-from-q
     loop-less-2
     loop-again-2
-    enum-told-4
-    ids-after-requires-2
-    attempts-after-requires
+    enum-known-touched-2
+    mul-a-2
+    element-set-from-a
     loop-less-3
     loop-again-3
-    enum-told-5
-    queries-after-requires-2
+    enum-known-touched-3
+    mul-q-3
+    element-set-from-q-2
     addresses-of-requires
-    answers-fed-requires
+    mul-l
+    element-set-from-l
     loop-less-4
     loop-again-4
-    enum-told-6
-    queries-after-requires-3
-    attempts-after-requires-2
+    enum-known-touched-4
+    mul-q-4
+    element-set-from-q-3
+    no-services-requires
+    loop-less-5
+    loop-again-5
+    enum-told-4
+    change-in-requires
+    queries-fed-requires
+    attempts-fed-requires
     offered-of-requires
     retry-of-requires
     services-fed-requires
@@ -401,7 +587,7 @@ run-spec =
     names-fed-requires
     echs-fed-requires
     alike-of-requires-2
-    loop-less-5
-    loop-again-5
+    loop-less-6
+    loop-again-6
     same-length-3
     returns-3)
