@@ -50,7 +50,8 @@ struct Race {
 /// Times each race and prints a line for it.
 pub fn run() {
     let mut races = [
-        Race::of("small: 1 attempt", small()),
+        Race::of("small, HTTPS failed", small()),
+        Race::of("small, HTTPS answered", answered()),
         Race::of("16 attempts", raced(16, 1)),
         Race::of("32 attempts, 2 services", raced(32, 2)),
     ];
@@ -196,6 +197,21 @@ fn small() -> History {
         .calls(9 * MS, 2)
         .tell(30 * MS, Body::Success(3))
         .call(30 * MS)
+}
+
+/// Eleven calls beside four inputs: HTTPS is answered with no service, an attempt over IPv6 and, when its timer is over, one over
+/// IPv4, which wins. An HTTPS answer has replay store whole tables of names and ECH bytes.
+fn answered() -> History {
+    History::new(Configuration::named(ORIGIN))
+        .calls(0, 4)
+        .tell(9 * MS, Body::A { id: 2, flags: 0, items: vec![v4(1)] })
+        .call(9 * MS)
+        .tell(14 * MS, Body::Aaaa { id: 1, flags: 0, items: vec![(v6(1), 0)] })
+        .tell(20 * MS, Body::Https { id: 0, flags: 0, items: vec![] })
+        .calls(20 * MS, 2)
+        .calls(270 * MS, 2)
+        .tell(300 * MS, Body::Success(4))
+        .calls(300 * MS, 2)
 }
 
 /// So many attempts, each when the timer before it is over; the last one wins and the others are cancelled. Every name has eight
