@@ -1,2 +1,3 @@
--- What is put into rooms one place after the other.
+-- What is put into rooms one place after the other, and rooms that hold nothing.
 pub mod Filling
+pub mod Bare

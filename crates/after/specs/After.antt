@@ -1,13 +1,14 @@
 -- Each part of the machine after a change.
 use Prim.Native.Nat.{ℕ, _+_}
-use mathlib.Core.Bool.{cond, _&&_}
+use mathlib.Core.Bool.{Bool, cond, _&&_}
 use mathlib.Core.List.{List, [], _∷_}
-use lib.Dec.{ltb}
+use lib.Dec.{eqb, ltb}
 use lib.ListN.{length, set}
 use lib.Seq.{sets}
 use Rattle.pacing.specs.Ids.{nextId}
 use Rattle.pacing.specs.declared.id.IdGenerator.{IdGenerator}
 use Rattle.records.specs.Lists.{padded}
+use Rattle.records.specs.Names.{nameAt, echAt}
 use Rattle.records.specs.Services.{noService, noServices, offered}
 use Rattle.records.specs.declared.names.Ech.{Ech}
 use Rattle.records.specs.declared.names.Echs.{Echs}
@@ -160,3 +161,18 @@ echsFed e (change.Retries p a r) t x = putEch e p x
 echsFed e (change.Holds p q) t x = e
 echsFed e (change.Empties p q) t x = e
 echsFed e (change.Offers p q round) t x = putEchs e round t
+
+-- whether four lengths are 0
+unfoldable pub areZero : ℕ → ℕ → ℕ → ℕ → Bool
+areZero a b c d = eqb a 0 && (eqb b 0 && (eqb c 0 && eqb d 0))
+
+-- whether the four names from a place on, and the four ECH configurations, have no bytes
+unfoldable pub bareNames : Names → ℕ → Bool
+bareNames t f = areZero (nameAt t f .len) (nameAt t (f + 1) .len) (nameAt t (f + 2) .len) (nameAt t (f + 3) .len)
+
+unfoldable pub bareEchs : Echs → ℕ → Bool
+bareEchs t f = areZero (echAt t f .len) (echAt t (f + 1) .len) (echAt t (f + 2) .len) (echAt t (f + 3) .len)
+
+-- whether the places of a round hold no bytes
+unfoldable pub bare : Names → Echs → Round → Bool
+bare n e round = bareNames n (firstName round) && bareEchs e (firstEch round)

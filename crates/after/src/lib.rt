@@ -2,8 +2,9 @@
 ghost use Prim.Native.Nat.{_<_};
 ghost use mathlib.Core.Path.{_≡_};
 ghost use Rattle.pacing.specs.Ids.{nextId};
+ghost use Rattle.state.specs.Changes.{firstName, firstEch};
 ghost use Rattle.after.specs.After.{counted, putQuery, queriesCalled, queriesFed, putAttempt, attemptsCalled, attemptsFed, idsCalled, putRetry, retriesFed, putAddresses, answersFed};
-ghost use Rattle.after.specs.After.{echPlace, placedAt, placedServices, servicesFed, putNames, namesFed, putEchs, putEch, echsFed};
+ghost use Rattle.after.specs.After.{echPlace, placedAt, placedServices, servicesFed, putNames, namesFed, putEchs, putEch, echsFed, areZero, bareNames, bareEchs, bare};
 use pacing::id::IdGenerator;
 use records::names::Ech;
 use records::names::EchPlace;
@@ -136,7 +137,7 @@ pub fn ids_called(ids: IdGenerator, change: CallChange) -> IdGenerator
     }
 }
 
-fn put_retry(retries: Retries, r: usize, p: usize) -> Retries
+pub fn put_retry(retries: Retries, r: usize, p: usize) -> Retries
     ensures { λ x. ⌜ x ≡ putRetry retries r p ⌝ }
 {
     let mut out = retries;
@@ -219,7 +220,7 @@ fn placed(s: Service, i: u8, round: Round) -> Service
 }
 
 // The services of an answer, each with the places of its round.
-fn placed_services(offered: Services, round: Round) -> Services
+pub fn placed_services(offered: Services, round: Round) -> Services
     ensures { λ x. ⌜ x ≡ placedServices offered round ⌝ }
 {
     let mut out = no_services();
@@ -319,4 +320,68 @@ pub fn echs_fed(echs: Echs, change: InputChange, targets: TargetEchs, retry: Ech
         InputChange::Empties(_, _) => echs,
         InputChange::Offers(_, _, round) => put_echs(echs, round, targets),
     }
+}
+
+fn are_zero(a: usize, b: usize, c: usize, d: usize) -> bool
+    ensures { λ r. ⌜ r ≡ areZero a b c d ⌝ }
+{
+    if a != 0 {
+        return false;
+    }
+    if b != 0 {
+        return false;
+    }
+    if c != 0 {
+        return false;
+    }
+    d == 0
+}
+
+// The places are constants: at a computed one the whole table would be copied to read a length.
+fn are_names_bare(names: Names, round: Round) -> bool
+    ensures { λ r. ⌜ r ≡ bareNames names (firstName round) ⌝ }
+{
+    match round {
+        Round::First => are_zero(
+            names.list[5].len,
+            names.list[6].len,
+            names.list[7].len,
+            names.list[8].len,
+        ),
+        Round::Second => are_zero(
+            names.list[9].len,
+            names.list[10].len,
+            names.list[11].len,
+            names.list[12].len,
+        ),
+    }
+}
+
+fn are_echs_bare(echs: Echs, round: Round) -> bool
+    ensures { λ r. ⌜ r ≡ bareEchs echs (firstEch round) ⌝ }
+{
+    match round {
+        Round::First => are_zero(
+            echs.list[0].len,
+            echs.list[1].len,
+            echs.list[2].len,
+            echs.list[3].len,
+        ),
+        Round::Second => are_zero(
+            echs.list[4].len,
+            echs.list[5].len,
+            echs.list[6].len,
+            echs.list[7].len,
+        ),
+    }
+}
+
+// Whether the places of a round hold no bytes.
+pub fn is_bare(names: Names, echs: Echs, round: Round) -> bool
+    ensures { λ r. ⌜ r ≡ bare names echs round ⌝ }
+{
+    if !are_names_bare(names, round) {
+        return false;
+    }
+    are_echs_bare(echs, round)
 }

@@ -15,8 +15,9 @@ use Rattle.parts.specs.Addresses.{addressesIn}
 use Rattle.parts.specs.Rooms.{kept, echIn}
 use Rattle.parts.specs.declared.address.Form.the-variants.{Four, Scoped}
 use Rattle.parts.specs.declared.address.Items.{Items}
-use Rattle.offers.specs.Offers.{noOffered, offeredIn}
+use Rattle.offers.specs.Offers.{noOffered, offeredIn, noLocated, locatedIn}
 use Rattle.bodies.specs.Events.{eventAt}
+use Rattle.offers.specs.declared.Located.{Located}
 use Rattle.offers.specs.declared.Offered.{Offered}
 use Rattle.bodies.specs.declared.Event.{Event}
 use Rattle.bodies.specs.declared.Event.the-variants as event
@@ -62,6 +63,20 @@ offeredOf s (event.Holds k id stale l) = offeredFor s k l
 offeredOf s (event.Success id) = noOffered
 offeredOf s (event.Failure id) = noOffered
 offeredOf s (event.EchRetry id b) = noOffered
+
+-- the same services, with where their names and ECH bytes stand
+abbrev pub locatedFor : List ℕ → Kind → Items → Located
+locatedFor s Https l = locatedIn s l
+locatedFor s Aaaa l = noLocated
+locatedFor s A l = noLocated
+
+abbrev pub locatedOf : List ℕ → Event → Located
+locatedOf s event.Call = noLocated
+locatedOf s (event.Fails k id stale) = noLocated
+locatedOf s (event.Holds k id stale l) = locatedFor s k l
+locatedOf s (event.Success id) = noLocated
+locatedOf s (event.Failure id) = noLocated
+locatedOf s (event.EchRetry id b) = noLocated
 
 abbrev pub retryOf : List ℕ → Event → Ech
 retryOf s event.Call = noEch

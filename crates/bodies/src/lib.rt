@@ -5,7 +5,7 @@ ghost use Rattle.numbers.specs.Shown.{readShown};
 ghost use Rattle.parts.specs.Shown.{itemsShown};
 ghost use Rattle.bodies.specs.Events.{itemsAt, answerAt, retryAt, restAt, inputAt, kindAt, bodyAt, eventAt, faultOf};
 ghost use Rattle.bodies.specs.Shown.{eventShown};
-ghost use Rattle.bodies.specs.Told.{addressCount, inputOf, addressesFor, addressesOf, offeredFor, offeredOf, retryOf, besideOf};
+ghost use Rattle.bodies.specs.Told.{addressCount, inputOf, addressesFor, addressesOf, locatedFor, locatedOf, offeredOf, retryOf, besideOf};
 use input::Input;
 use machine::calls::Beside;
 use numbers::field::Span;
@@ -16,9 +16,11 @@ use numbers::number::Read;
 use numbers::number::read_number;
 use numbers::refusal::Refusal;
 use numbers::refusal::refusal_number;
+use offers::Located;
 use offers::Offered;
-use offers::fill_offers;
-use offers::no_offered;
+use offers::in_rooms;
+use offers::locate_offers;
+use offers::no_located;
 use offers::read_offers;
 use parts::address::Form;
 use parts::address::Items;
@@ -247,28 +249,36 @@ pub fn addresses_of(s: &[u8], e: Event) -> Addresses
     }
 }
 
-fn offered_for(s: &[u8], kind: Kind, l: Items) -> Offered
-    ensures { λ r. ⌜ r ≡ offeredFor (now (s .entry)) kind l ⌝ }
+fn locate_for(s: &[u8], kind: Kind, l: Items) -> Located
+    ensures { λ r. ⌜ r ≡ locatedFor (now (s .entry)) kind l ⌝ }
 {
     match kind {
-        Kind::Https => fill_offers(s, l),
-        Kind::Aaaa => no_offered(),
-        Kind::A => no_offered(),
+        Kind::Https => locate_offers(s, l),
+        Kind::Aaaa => no_located(),
+        Kind::A => no_located(),
     }
 }
 
-// The services that an event brings.
+// The services that an event brings, and where their names and ECH bytes stand.
+pub fn located_of(s: &[u8], e: Event) -> Located
+    ensures { λ r. ⌜ r ≡ locatedOf (now (s .entry)) e ⌝ }
+{
+    match e {
+        Event::Call => no_located(),
+        Event::Fails(_, _, _) => no_located(),
+        Event::Holds(k, _, _, l) => locate_for(s, k, l),
+        Event::Success(_) => no_located(),
+        Event::Failure(_) => no_located(),
+        Event::EchRetry(_, _) => no_located(),
+    }
+}
+
+// The services that an event brings, with their names and ECH bytes.
 pub fn offered_of(s: &[u8], e: Event) -> Offered
     ensures { λ r. ⌜ r ≡ offeredOf (now (s .entry)) e ⌝ }
 {
-    match e {
-        Event::Call => no_offered(),
-        Event::Fails(_, _, _) => no_offered(),
-        Event::Holds(k, _, _, l) => offered_for(s, k, l),
-        Event::Success(_) => no_offered(),
-        Event::Failure(_) => no_offered(),
-        Event::EchRetry(_, _) => no_offered(),
-    }
+    let o = located_of(s, e);
+    in_rooms(s, o)
 }
 
 // The ECH bytes that an event brings as a retry.

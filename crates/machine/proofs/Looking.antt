@@ -1,4 +1,5 @@
--- What is found by class is what is found with the bytes; where nothing is looked for, nothing is found.
+-- What is found by class is what is found with the bytes, and so is what is found one after the other; where nothing is looked for, nothing is
+-- found.
 use mathlib.Core.Path.{_≡_, refl, sym, ap, _∙_}
 use mathlib.Core.Bool.{Bool, true, false, false≢true, _||_}
 use Rattle.records.specs.Classes.{sameClass}
@@ -21,11 +22,13 @@ use Rattle.upcoming.specs.Wanted.{wantedBy}
 use Rattle.upcoming.specs.declared.alike.Alike as classes
 use Rattle.starting.specs.declared.surveys.Kinds.{Kinds}
 use Rattle.upcoming.specs.declared.next.Next.{Next}
+use Rattle.upcoming.specs.declared.next.Next.the-variants as next
 use Rattle.upcoming.specs.declared.wanted.Wanted.{Wanted}
 use Rattle.upcoming.proofs.Classed.{alike-same}
 use Rattle.machine.specs.declared.wish.Look.{Look}
+use Rattle.machine.specs.declared.wish.Found.{Found}
 use Rattle.machine.specs.declared.wish.Found.the-variants as found
-use Rattle.machine.specs.Output.{looks, ifLooked, retryFound, attemptFound, otherFound, laterFound, foundBy}
+use Rattle.machine.specs.Output.{looks, ifLooked, looksOn, retryFound, attemptFound, otherFound, foundBy}
 
 -- two endpoints are one by class exactly if they are with their bytes
 pub alike-bytes : (names : Names) (echs : Echs) → alikeEndpoints (sameHostsOf names) (sameEchsOf echs) ≡ sameEndpoint names echs
@@ -48,6 +51,18 @@ nothing false false true n m w e = absurd (false≢true (sym e))
 nothing false false false n m w e = refl
 
 pub found-nothing : (same : Same) (alike : Alike) (look : Look) (k : Kinds) (r : Rules) (l : Alts) (q : Queries) (d : Answers) (s : Services) (a : Attempts) (retries : Retries) → looks look ≡ false → foundBy same alike look k r l q d s a retries ≡ found.Nothing
-unfolding foundBy laterFound
+unfolding foundBy
 found-nothing same alike look k r l q d s a retries e =
     nothing (look .retry) (look .next) (look .query) (nextRetry alike a retries) (nextEndpoint alike r l q d s a same) (wantedBy k r l q s same) e
+
+-- what is found one after the other, the next endpoint only where there is no retry, is what is found
+one-by-one : (r : Next) (on : Bool) (n : Next) (f : Found) → retryFound r (attemptFound (ifLooked (looksOn on r) n) f) ≡ retryFound r (attemptFound (ifLooked on n) f)
+one-by-one next.Nothing on n f = refl
+one-by-one (next.New e) on n f = refl
+
+pub found-by : (same : Same) (alike : Alike) (look : Look) (k : Kinds) (r : Rules) (l : Alts) (q : Queries) (d : Answers) (s : Services) (a : Attempts) (retries : Retries) {retry n : Next} {on : Bool} {f : Found} → retry ≡ ifLooked (look .retry) (nextRetry alike a retries) → on ≡ looksOn (look .next) retry → n ≡ ifLooked on (nextEndpoint alike r l q d s a same) → f ≡ retryFound retry (attemptFound n (otherFound (look .query) (wantedBy k r l q s same))) → f ≡ foundBy same alike look k r l q d s a retries
+unfolding foundBy
+found-by same alike look k r l q d s a retries {retry = retry} u o v w =
+    w ∙ (ap (λ n. retryFound retry (attemptFound n (otherFound (look .query) (wantedBy k r l q s same)))) (v ∙ ap (λ x. ifLooked x (nextEndpoint alike r l q d s a same)) o)
+    ∙ (one-by-one retry (look .next) (nextEndpoint alike r l q d s a same) _
+    ∙ ap (λ x. retryFound x (attemptFound (ifLooked (look .next) (nextEndpoint alike r l q d s a same)) (otherFound (look .query) (wantedBy k r l q s same)))) u))

@@ -33,7 +33,7 @@ use Rattle.machine.specs.declared.wish.Look.{Look}
 use Rattle.machine.specs.declared.wish.Found.{Found}
 use Rattle.machine.specs.declared.wish.Wish.{Wish}
 use Rattle.machine.specs.Steps.{surveyOf}
-use Rattle.machine.specs.Output.{endWish, restWish, queryWish, attemptWish, retryWish, gate, wishBy, noLook, hasOthers, lookOf, retryFound, attemptFound, otherFound, ifLooked, laterFound, foundBy, originIn, nextOrigin, wishFound, wishFrom}
+use Rattle.machine.specs.Output.{endWish, restWish, queryWish, attemptWish, retryWish, gate, wishBy, noLook, hasOthers, lookOf, retryFound, attemptFound, otherFound, ifLooked, foundBy, originIn, nextOrigin, wishFound, wishFrom}
 
 -- the query: where nothing but the origin's can be wanted, none is looked for
 query-way : (on : Bool) (m : Mode) (o others : Wanted) (rest : Wish) → (on ≡ false → others ≡ wanted.Nothing) → wishFound (otherFound on (wantedIn m o others)) (queryWish (originIn m o) rest) ≡ queryWish (wantedIn m o others) rest
@@ -87,7 +87,7 @@ neither false b v w e h k = ap (λ x. orWanted x w) (h refl) ∙ k e
 
 -- what the code finds is what the rules call for
 pub found-way : (same : Same) (alike : Alike) (r : Rules) (t : Timing) (l : Alts) (q : Queries) (d : Answers) (s : Services) (a : Attempts) (retries : Retries) (now : ℕ) → wishFrom r t (triesOf a) (asksOf q) (foundBy same alike (lookOf r t (triesOf a) (asksOf q) (hintsOf s) (retries .count) (s .count) (l .count) now) (asksOf q .asked) r l q d s a retries) (a .count) now ≡ wishBy same alike r t l q d s a retries now
-unfolding wishFrom foundBy laterFound lookOf wishBy nextOrigin nextQuery wantedBy asksOf
+unfolding wishFrom foundBy lookOf wishBy nextOrigin nextQuery wantedBy asksOf
 found-way same alike r t l q d s a retries now =
     way (triesOf a .won) (ltb 0 (retries .count)) (gate r t (triesOf a) (asksOf q) (hintsOf s) now) (hasOthers (s .count) (l .count)) _ (triesOf a .first) (nextRetry alike a retries) (nextEndpoint alike r l q d s a same) (r .mode) (originWanted r (asksOf q .asked)) (orWanted (targetsWanted r q s same) (altsWanted r l q same)) (restWish t (triesOf a) (asksOf q) (a .count) now) refl (no-retry alike a retries) (λ e. neither (ltb 0 (s .count)) (ltb 0 (l .count)) _ _ e (no-target r q s same) (no-alt r l q same))
 

@@ -151,14 +151,16 @@ otherFound on w = cond on (queryFound w) found.Nothing
 abbrev pub ifLooked : Bool → Next → Next
 ifLooked on n = cond on n next.Nothing
 
--- where records of those types were asked for
-unfoldable pub laterFound : Same → Alike → Look → Kinds → Rules → Alts → Queries → Answers → Services → Attempts → Found
-laterFound same alike look k r l q d s a =
-    attemptFound (ifLooked (look .next) (nextEndpoint alike r l q d s a same)) (otherFound (look .query) (wantedBy k r l q s same))
+-- the next endpoint is looked for only where no retry was found
+abbrev pub looksOn : Bool → Next → Bool
+looksOn on next.Nothing = on
+looksOn on (next.New e) = false
 
+-- where records of those types were asked for
 unfoldable pub foundBy : Same → Alike → Look → Kinds → Rules → Alts → Queries → Answers → Services → Attempts → Retries → Found
 foundBy same alike look k r l q d s a retries =
-    retryFound (ifLooked (look .retry) (nextRetry alike a retries)) (laterFound same alike look k r l q d s a)
+    retryFound (ifLooked (look .retry) (nextRetry alike a retries))
+    (attemptFound (ifLooked (look .next) (nextEndpoint alike r l q d s a same)) (otherFound (look .query) (wantedBy k r l q s same)))
 
 -- the origin's query; mode `Name` wants none
 abbrev pub originIn : Mode → Wanted → Wanted

@@ -5,7 +5,7 @@ ghost use Rattle.upcoming.specs.Alike.{alikeEndpoints};
 ghost use Rattle.upcoming.specs.Next.{nextRetry, nextEndpoint};
 ghost use Rattle.upcoming.specs.Wanted.{wantedBy};
 ghost use Rattle.starting.specs.Starting.{resolutionLeft, attemptLeft};
-ghost use Rattle.machine.specs.Output.{endWish, reasonOf, lastWish, timerWish, restWish, gate, hasOthers, lookOf, looks, ifLooked, queryFound, otherFound, laterFound, foundBy, nextOrigin, queryWish, wishFrom};
+ghost use Rattle.machine.specs.Output.{endWish, reasonOf, lastWish, timerWish, restWish, gate, hasOthers, lookOf, looks, ifLooked, looksOn, queryFound, retryFound, attemptFound, otherFound, foundBy, nextOrigin, queryWish, wishFrom};
 use records::endpoints::Endpoint;
 use records::names::SameNames;
 use records::queries::Answers;
@@ -201,7 +201,8 @@ fn found_query(w: Wanted) -> Found
     }
 }
 
-fn retry_next(on: bool, attempts: Attempts, retries: Retries, alike: Alike) -> Next
+// The next retry, and the next endpoint, where they are looked for.
+pub fn retry_next(on: bool, attempts: Attempts, retries: Retries, alike: Alike) -> Next
     ensures { λ r. ⌜ r ≡ ifLooked on (nextRetry (alikeEndpoints (alike .hosts) (alike .echs)) attempts retries) ⌝ }
 {
     if on {
@@ -210,7 +211,7 @@ fn retry_next(on: bool, attempts: Attempts, retries: Retries, alike: Alike) -> N
     Next::Nothing
 }
 
-fn endpoint_next(
+pub fn endpoint_next(
     on: bool,
     rules: Rules,
     alts: Alts,
@@ -245,38 +246,40 @@ fn query_found(
     Found::Nothing
 }
 
-// The next endpoint, else a query.
-fn later_found(
-    look: Look,
-    rules: Rules,
-    alts: Alts,
-    queries: Queries,
-    answers: Answers,
-    services: Services,
-    attempts: Attempts,
-    asks: Asks,
-    alike: Alike,
-) -> Found
-    ensures { λ r. ⌜ r ≡ laterFound (sameClass (alike .names)) (alikeEndpoints (alike .hosts) (alike .echs)) look (asks .asked) rules alts queries answers services attempts ⌝ }
+// Whether the next endpoint is looked for: not where a retry was found.
+pub fn looks_on(on: bool, retry: Next) -> bool
+    ensures { λ r. ⌜ r ≡ looksOn on retry ⌝ }
 {
-    let same = alike.names;
-    let n = endpoint_next(
-        look.next,
-        rules,
-        alts,
-        queries,
-        answers,
-        services,
-        attempts,
-        alike,
-    );
-    match n {
-        Next::Nothing => query_found(look.query, rules, alts, queries, services, asks, same),
-        Next::New(e) => Found::Attempt(e),
+    match retry {
+        Next::Nothing => on,
+        Next::New(_) => false,
     }
 }
 
-// The first that there is: a retry, the next endpoint, a query.
+// The first that there is: a retry, the next endpoint, a query, which is looked for only then.
+pub fn first_found(
+    retry: Next,
+    next: Next,
+    on: bool,
+    rules: Rules,
+    alts: Alts,
+    queries: Queries,
+    services: Services,
+    asks: Asks,
+    same: SameNames,
+) -> Found
+    ensures { λ r. ⌜ r ≡ retryFound retry (attemptFound next (otherFound on (wantedBy (asks .asked) rules alts queries services (sameClass same)))) ⌝ }
+{
+    match retry {
+        Next::Nothing => match next {
+            Next::Nothing => query_found(on, rules, alts, queries, services, asks, same),
+            Next::New(e) => Found::Attempt(e),
+        },
+        Next::New(e) => Found::Retry(e),
+    }
+}
+
+// What is found, in that order.
 pub fn found_of(
     look: Look,
     rules: Rules,
@@ -291,21 +294,21 @@ pub fn found_of(
 ) -> Found
     ensures { λ r. ⌜ r ≡ foundBy (sameClass (alike .names)) (alikeEndpoints (alike .hosts) (alike .echs)) look (asks .asked) rules alts queries answers services attempts retries ⌝ }
 {
-    let n = retry_next(look.retry, attempts, retries, alike);
-    match n {
-        Next::Nothing => later_found(
-            look,
-            rules,
-            alts,
-            queries,
-            answers,
-            services,
-            attempts,
-            asks,
-            alike,
-        ),
-        Next::New(e) => Found::Retry(e),
-    }
+    let same = alike.names;
+    let retry = retry_next(look.retry, attempts, retries, alike);
+    let on = looks_on(look.next, retry);
+    let next = endpoint_next(on, rules, alts, queries, answers, services, attempts, alike);
+    first_found(
+        retry,
+        next,
+        look.query,
+        rules,
+        alts,
+        queries,
+        services,
+        asks,
+        same,
+    )
 }
 
 // The query for the origin; mode `Name` wants none.

@@ -8,6 +8,7 @@ use Rattle.numbers.specs.Fields.{atMost, bytesAt, nameAt}
 use Rattle.numbers.specs.Names.{longestName}
 use Rattle.numbers.specs.Numbers.{readNumber}
 use Rattle.numbers.specs.Refusals.{outOfRange, tooMany}
+use Rattle.numbers.specs.declared.field.Span.{Span}
 use Rattle.records.specs.Lists.{padded}
 use Rattle.records.specs.Names.{noName, noEch}
 use Rattle.records.specs.Services.{noService, noServices}
@@ -16,6 +17,8 @@ use Rattle.records.specs.declared.names.EchPlace.{EchPlace}
 use Rattle.records.specs.declared.names.EchPlace.the-variants as place
 use Rattle.records.specs.declared.names.Name.{Name}
 use Rattle.records.specs.declared.services.Service.{Service}
+use Rattle.after.specs.declared.TargetEchs.{TargetEchs}
+use Rattle.after.specs.declared.TargetNames.{TargetNames}
 use Rattle.parts.specs.Reading.{Reading, read, next, field}
 use Rattle.parts.specs.Items.{counted, listed}
 use Rattle.parts.specs.Addresses.{address, foursIn, sixesIn}
@@ -29,6 +32,7 @@ use Rattle.offers.specs.declared.Head.{Head}
 use Rattle.offers.specs.declared.Way.{Way}
 use Rattle.offers.specs.declared.Hints.{Hints}
 use Rattle.offers.specs.declared.Offer.{Offer}
+use Rattle.offers.specs.declared.Located.{Located}
 use Rattle.offers.specs.declared.Offered.{Offered}
 
 -- priority, target name, versions
@@ -94,3 +98,35 @@ noOffered = record { services = noServices; names = record { list = replicate 4 
 
 unfoldable pub offeredIn : List ℕ → Items → Offered
 offeredIn s l = brought s (listed 4 (offer s) l)
+
+-- The same services, and where their names and ECH bytes stand; and none. A service without ECH bytes has the empty span: its `ech` says which.
+
+abbrev pub noSpan : Span
+noSpan = record { start = 0; len = 0 }
+
+abbrev pub spanOf : EchSpan → Span
+spanOf Without = noSpan
+spanOf (Sealed b) = b
+
+unfoldable pub located : List ℕ → List Offer → Located
+located s l = record {
+  services = record { count = length l; list = padded 4 noService (map (serviceOf s) l) };
+  names = padded 4 noSpan (map (λ o. o .head .name) l);
+  echs = padded 4 noSpan (map (λ o. spanOf (o .way .ech)) l);
+}
+
+unfoldable pub noLocated : Located
+noLocated = record { services = noServices; names = replicate 4 noSpan; echs = replicate 4 noSpan }
+
+unfoldable pub locatedIn : List ℕ → Items → Located
+locatedIn s l = located s (listed 4 (offer s) l)
+
+-- what stands there, in its rooms: `brought` of the same services (proofs/Places.antt)
+unfoldable pub namesIn : List ℕ → List Span → TargetNames
+namesIn s l = record { list = map (λ b. nameIn (kept longestName s b)) l }
+
+unfoldable pub echsIn : List ℕ → List Span → TargetEchs
+echsIn s l = record { list = map (λ b. echIn (kept 512 s b)) l }
+
+unfoldable pub inRooms : List ℕ → Located → Offered
+inRooms s o = record { services = o .services; names = namesIn s (o .names); echs = echsIn s (o .echs) }

@@ -1,7 +1,7 @@
 // Services in an HTTPS answer.
 ghost use mathlib.Core.Path.{_≡_};
 ghost use Rattle.parts.specs.Items.{items, past, counted};
-ghost use Rattle.offers.specs.Offers.{head, ech, way, hints, offer, sealedAt, serviceOf, echFrom, noOffered, offeredIn};
+ghost use Rattle.offers.specs.Offers.{head, ech, way, hints, offer, sealedAt, serviceOf, spanOf, noLocated, locatedIn, namesIn, echsIn, inRooms};
 ghost use Rattle.offers.specs.Shown.{headShown, echShown, wayShown, hintsShown, offerShown};
 ghost use Rattle.parts.specs.Shown.{passedShown, itemsShown};
 use after::TargetEchs;
@@ -26,10 +26,7 @@ use parts::field::read_port;
 use parts::field::read_versions;
 use parts::room::ech_of;
 use parts::room::name_of;
-use records::names::Ech;
 use records::names::EchPlace;
-use records::names::no_ech;
-use records::names::no_name;
 use records::rules::Port;
 use records::rules::Versions;
 use records::services::Service;
@@ -88,6 +85,13 @@ pub enum HintsRead {
 pub enum OfferRead {
     Offer(Offer, usize),
     Refused(Refusal, usize),
+}
+
+// The services of an HTTPS answer, and where the name and the ECH bytes of each stand: an empty span where there are none.
+pub struct Located {
+    pub services: Services,
+    pub names: [Span; 4],
+    pub echs: [Span; 4],
 }
 
 // What an HTTPS answer has: its services, with their names and ECH bytes beside.
@@ -286,34 +290,31 @@ fn service_of(s: &[u8], o: Offer) -> Service
     }
 }
 
-// The ECH bytes of a service; none are an empty room.
-fn ech_from(s: &[u8], e: EchSpan) -> Ech
-    ensures { λ r. ⌜ r ≡ echFrom (now (s .entry)) e ⌝ }
+fn span_of(e: EchSpan) -> Span
+    ensures { λ r. ⌜ r ≡ spanOf e ⌝ }
 {
     match e {
-        EchSpan::Without => no_ech(),
-        EchSpan::Sealed(b) => ech_of(s, b),
+        EchSpan::Without => Span { start: 0, len: 0 },
+        EchSpan::Sealed(b) => b,
     }
 }
 
-pub fn no_offered() -> Offered
-    ensures { λ r. ⌜ r ≡ noOffered ⌝ }
+pub fn no_located() -> Located
+    ensures { λ r. ⌜ r ≡ noLocated ⌝ }
 {
-    let n = no_name();
-    let e = no_ech();
-    Offered {
+    Located {
         services: no_services(),
-        names: TargetNames { list: [n; 4] },
-        echs: TargetEchs { list: [e; 4] },
+        names: [Span { start: 0, len: 0 }; 4],
+        echs: [Span { start: 0, len: 0 }; 4],
     }
 }
 
-// The services of an answer, copied from where they stand.
-pub fn fill_offers(s: &[u8], l: Items) -> Offered
-    ensures { λ r. ⌜ r ≡ offeredIn (now (s .entry)) l ⌝ }
+// The services of an answer, read where they stand.
+pub fn locate_offers(s: &[u8], l: Items) -> Located
+    ensures { λ r. ⌜ r ≡ locatedIn (now (s .entry)) l ⌝ }
 {
     let n = l.count;
-    let none = no_offered();
+    let none = no_located();
     if 4 < n {
         return none;
     }
@@ -326,24 +327,64 @@ pub fn fill_offers(s: &[u8], l: Items) -> Offered
         let r = read_offer(s, p);
         match r {
             OfferRead::Refused(_, _) => {
-                return no_offered();
+                return no_located();
             }
             OfferRead::Offer(o, next) => {
                 let head = o.head;
                 let way = o.way;
                 let sealed = way.ech;
                 let service = service_of(s, o);
-                let name = name_of(s, head.name);
-                let ech = ech_from(s, sealed);
+                let name = head.name;
+                let ech = span_of(sealed);
                 services.list[i] = service;
-                names.list[i] = name;
-                echs.list[i] = ech;
+                names[i] = name;
+                echs[i] = ech;
                 p = next;
                 i += 1;
             }
         }
     }
     services.count = n;
+    Located {
+        services,
+        names,
+        echs,
+    }
+}
+
+fn names_in(s: &[u8], l: [Span; 4]) -> TargetNames
+    ensures { λ r. ⌜ r ≡ namesIn (now (s .entry)) l ⌝ }
+{
+    let first = name_of(s, l[0]);
+    let second = name_of(s, l[1]);
+    let third = name_of(s, l[2]);
+    let fourth = name_of(s, l[3]);
+    TargetNames {
+        list: [first, second, third, fourth],
+    }
+}
+
+fn echs_in(s: &[u8], l: [Span; 4]) -> TargetEchs
+    ensures { λ r. ⌜ r ≡ echsIn (now (s .entry)) l ⌝ }
+{
+    let first = ech_of(s, l[0]);
+    let second = ech_of(s, l[1]);
+    let third = ech_of(s, l[2]);
+    let fourth = ech_of(s, l[3]);
+    TargetEchs {
+        list: [first, second, third, fourth],
+    }
+}
+
+// The names and ECH bytes, copied from where they stand.
+pub fn in_rooms(s: &[u8], o: Located) -> Offered
+    ensures { λ r. ⌜ r ≡ inRooms (now (s .entry)) o ⌝ }
+{
+    let services = o.services;
+    let targets = o.names;
+    let sealed = o.echs;
+    let names = names_in(s, targets);
+    let echs = echs_in(s, sealed);
     Offered {
         services,
         names,

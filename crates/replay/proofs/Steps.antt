@@ -1,14 +1,16 @@
 -- One event, decided over the machine's parts, is one step of the run.
-use Prim.Native.Nat.{ℕ, _≤_, _<_}
+use Prim.Native.Nat.{ℕ, _+_, _≤_, _<_, min}
 use native.Mathlib.Omega.{arith}
 use mathlib.Core.Path.{_≡_, refl, sym, ap, _∙_}
 use mathlib.Core.Logic.{⊎-elim}
+use mathlib.Core.Bool.{Bool, true, false, cond, _&&_}
 use mathlib.Core.List.{List}
+use lib.Dec.{ltb}
 use lib.ListN.{getD, set}
 use borrow.Author.Tests.{lt-ltb, le-ltb}
 use Rattle.numbers.proofs.Cases.{less-or-not}
 use Rattle.records.specs.Classes.{sameClass}
-use Rattle.records.specs.Names.{sameAt, nameBytes, nameAt, nameBytesAt, blankName, echBytes, echAt, echBytesAt, blankEch}
+use Rattle.records.specs.Names.{sameAt, nameBytes, nameAt, nameBytesAt, blankName, echBytes, echAt, echBytesAt, blankEch, withEch}
 use Rattle.upcoming.specs.Alike.{sameHostsOf, sameEchsOf, alikeEndpoints, alikeOf}
 use Rattle.upcoming.specs.Next as next
 use Rattle.upcoming.specs.declared.alike.Alike as classes
@@ -29,8 +31,11 @@ use Rattle.state.specs.declared.attempts.Attempt.{Attempt}
 use Rattle.state.specs.declared.attempts.Attempts.{Attempts}
 use Rattle.state.specs.declared.attempts.Retries.{Retries}
 use Rattle.input.specs.Input.{verdictOf}
+use Rattle.input.specs.Verdicts.{Inside}
 use Rattle.input.specs.declared.Input.{Input}
 use Rattle.input.specs.declared.Verdict.{Verdict}
+use Rattle.input.specs.declared.Verdict.the-variants as verdict
+use Rattle.input.proofs.Laws.{inside-rooms}
 use Rattle.machine.specs.declared.calls.Survey.{Survey}
 use Rattle.machine.specs.declared.wish.Found.{Found}
 use Rattle.machine.specs.declared.wish.Wish.{Wish}
@@ -38,11 +43,12 @@ use Rattle.machine.specs.declared.grant.Turn.{Turn}
 use Rattle.machine.specs.declared.grant.Output.{Output}
 use Rattle.state.specs.declared.Machine.{Machine}
 use Rattle.state.specs.declared.changes.CallChange.the-variants as call
+use Rattle.state.specs.declared.changes.InputChange.{InputChange}
 use Rattle.state.specs.declared.changes.InputChange.the-variants as input
 use Rattle.machine.specs.declared.calls.Beside.{Beside}
-use Rattle.after.specs.After.{putQuery, putAttempt, putAddresses, queriesFed, attemptsFed, servicesFed, retriesFed, namesFed, echsFed}
+use Rattle.after.specs.After.{putQuery, putAttempt, putAddresses, putRetry, putEch, placedServices, putNames, putEchs}
 use Rattle.machine.specs.Output.{foundBy, wishFrom, wishBy, wishOf, granted}
-use Rattle.machine.specs.Steps.{surveyOf, turnOf, judged, outputStep, inputStep}
+use Rattle.machine.specs.Steps.{surveyOf, turnOf, judged, changeOf, outputStep, inputStep}
 use Rattle.records.proofs.Classes.{classes-same}
 use Rattle.machine.proofs.Looking.{alike-bytes}
 use Rattle.machine.proofs.Way.{wish-seen}
@@ -50,7 +56,7 @@ use Rattle.parts.specs.Reading.{Reading, read, fault}
 use Rattle.parts.specs.Reading as reading
 use Rattle.bodies.specs.Events.{eventAt}
 use Rattle.bodies.specs.Shown.{eventShown}
-use Rattle.bodies.specs.Told.{Told, readBody, besideOf, toldBy}
+use Rattle.bodies.specs.Told.{Told, inputOf, readBody, besideOf, toldBy}
 use Rattle.bodies.specs.Told as told
 use Rattle.bodies.specs.declared.Event.{Event}
 use Rattle.bodies.specs.declared.Event.the-variants as event
@@ -65,9 +71,10 @@ use Rattle.replies.specs.declared.Change.the-variants as change
 use Rattle.replies.specs.declared.Reply.{Reply}
 use Rattle.replies.specs.declared.Touched.{Touched}
 use Rattle.replies.specs.declared.Touched.the-variants as touched
-use Rattle.replies.specs.Replies.{replyBy, replyOn, eventIn, after, changeIn, idsAfter, triedAt, touchedOf}
+use Rattle.replies.specs.Replies.{replyBy, replyOn, eventIn, after, idsAfter, touchedOf}
 use Rattle.replay.specs.Saying.{answerName, answerEch, saidTo}
 use Rattle.replay.specs.Replay.{Step, stepBy, stepOf}
+use Rattle.replay.proofs.Wished.{Sized}
 
 -- what is said with the machine's tables
 abbrev pub saidIn : Machine → Answer → Said
@@ -95,12 +102,16 @@ pub body-step : (m : Machine) (now : ℕ) (body : List ℕ) (r : EventRead) → 
 unfolding stepOf readBody
 body-step m now body r e = ap (λ x. stepBy m now (reading.next x (λ v end. read (toldBy body v) end))) (sym e) ∙ read-step m now body r
 
+-- The loop's parts as a machine
+abbrev pub parts : Rules → Timing → Alts → IdGenerator → Queries → Answers → Services → Attempts → Retries → Names → Echs → Machine
+parts r t l ids q d s a retries n e =
+    record { rules = r; timing = t; alts = l; ids = ids; queries = q; answers = d; services = s; attempts = a; retries = retries; names = n; echs = e }
+
 -- The parts after a change, by what it stores
 
 -- those that no element is stored in, but for the ids, are kept
 abbrev keeps : Machine → Change → Queries → Answers → Services → Attempts → Machine
-keeps m c q d s a =
-    record { rules = m .rules; timing = m .timing; alts = m .alts; ids = idsAfter (m .ids) c; queries = q; answers = d; services = s; attempts = a; retries = m .retries; names = m .names; echs = m .echs }
+keeps m c q d s a = parts (m .rules) (m .timing) (m .alts) (idsAfter (m .ids) c) q d s a (m .retries) (m .names) (m .echs)
 
 abbrev queryIn : Queries → ℕ → Query → ℕ → Queries
 queryIn q p x n = record { count = n; list = set (q .list) p x }
@@ -114,25 +125,46 @@ partsBy (touched.Asked p q n) m c b = keeps m c (queryIn (m .queries) p q n) (m 
 partsBy (touched.Tried p a n) m c b = keeps m c (m .queries) (m .answers) (m .services) (attemptIn (m .attempts) p a n)
 partsBy (touched.Answered p q n) m c b = keeps m c (queryIn (m .queries) p q n) (record { list = set (m .answers .list) p (b .addresses) }) (m .services) (m .attempts)
 partsBy (touched.Emptied p q n) m c b = keeps m c (queryIn (m .queries) p q n) (m .answers) noServices (m .attempts)
-partsBy touched.Brought m c b =
-    record { rules = m .rules; timing = m .timing; alts = m .alts; ids = idsAfter (m .ids) c; queries = queriesFed (m .queries) (changeIn c); answers = m .answers; services = servicesFed (m .services) (changeIn c) (b .services); attempts = attemptsFed (m .attempts) (changeIn c); retries = retriesFed (m .retries) (changeIn c); names = namesFed (m .names) (changeIn c) (b .names); echs = echsFed (m .echs) (changeIn c) (b .echs) (b .retry) }
+partsBy (touched.Offered p q n round) m c b =
+    parts (m .rules) (m .timing) (m .alts) (idsAfter (m .ids) c) (queryIn (m .queries) p q n) (m .answers) (placedServices (b .services) round) (m .attempts) (m .retries) (putNames (m .names) round (b .names)) (putEchs (m .echs) round (b .echs))
+partsBy (touched.Retried p a n r) m c b =
+    parts (m .rules) (m .timing) (m .alts) (idsAfter (m .ids) c) (m .queries) (m .answers) (m .services) (attemptIn (m .attempts) p a n) (putRetry (m .retries) r p) (m .names) (withEch (m .echs) (8 + p) (b .retry))
 
 abbrev pub touchedIn : Machine → Change → Touched
 touchedIn m c = touchedOf (m .queries .count) (m .attempts .count) c
 
-pub parts-after : (m : Machine) (c : Change) (b : Beside) → after m c b ≡ partsBy (touchedIn m c) m c b
-unfolding putQuery putAttempt putAddresses
-parts-after m change.Nothing b = refl
-parts-after m (change.Called call.Nothing) b = refl
-parts-after m (change.Called (call.Asks p q)) b = ⊎-elim (λ (h : p < 16). rw (lt-ltb p 16 h)) (λ (h : 16 ≤ p). rw (le-ltb p 16 h)) (less-or-not p 16)
-parts-after m (change.Called (call.Tries p a)) b = ⊎-elim (λ (h : p < 32). rw (lt-ltb p 32 h)) (λ (h : 32 ≤ p). rw (le-ltb p 32 h)) (less-or-not p 32)
-parts-after m (change.Called (call.Cancels p a)) b = ⊎-elim (λ (h : p < 32). rw (lt-ltb p 32 h)) (λ (h : 32 ≤ p). rw (le-ltb p 32 h)) (less-or-not p 32)
-parts-after m (change.Fed input.Nothing) b = refl
-parts-after m (change.Fed (input.Ends p a)) b = ⊎-elim (λ (h : p < 32). rw (lt-ltb p 32 h)) (λ (h : 32 ≤ p). rw (le-ltb p 32 h)) (less-or-not p 32)
-parts-after m (change.Fed (input.Retries p a r)) b = refl
-parts-after m (change.Fed (input.Holds p q)) b = ⊎-elim (λ (h : p < 16). rw (lt-ltb p 16 h)) (λ (h : 16 ≤ p). rw (le-ltb p 16 h)) (less-or-not p 16)
-parts-after m (change.Fed (input.Empties p q)) b = ⊎-elim (λ (h : p < 16). rw (lt-ltb p 16 h)) (λ (h : 16 ≤ p). rw (le-ltb p 16 h) (rw (le-ltb p 16 h))) (less-or-not p 16)
-parts-after m (change.Fed (input.Offers p q round)) b = refl
+-- a change that has services gone or stored has its record inside the table
+abbrev pub Proper : Change → Type 0
+Proper change.Nothing = Unit {0}
+Proper (change.Called c) = Unit {0}
+Proper (change.Fed input.Nothing) = Unit {0}
+Proper (change.Fed (input.Ends p a)) = Unit {0}
+Proper (change.Fed (input.Retries p a r)) = Unit {0}
+Proper (change.Fed (input.Holds p q)) = Unit {0}
+Proper (change.Fed (input.Empties p q)) = p < 16
+Proper (change.Fed (input.Offers p q round)) = p < 16
+
+kept-retries : (t : Retries) (r p : ℕ) → 32 ≤ p → putRetry t r p ≡ t
+unfolding putRetry
+kept-retries t r p h = rw (le-ltb p 32 h) (by (ltb r 32))
+  where
+    by : (b : Bool) → cond (b && false) (record { count = r + 1; list = set (t .list) r p }) t ≡ t
+    by true = refl
+    by false = refl
+
+pub parts-after : (m : Machine) (c : Change) (b : Beside) → Proper c → after m c b ≡ partsBy (touchedIn m c) m c b
+unfolding putQuery putAttempt putAddresses putEch
+parts-after m change.Nothing b s = refl
+parts-after m (change.Called call.Nothing) b s = refl
+parts-after m (change.Called (call.Asks p q)) b s = ⊎-elim (λ (h : p < 16). rw (lt-ltb p 16 h)) (λ (h : 16 ≤ p). rw (le-ltb p 16 h)) (less-or-not p 16)
+parts-after m (change.Called (call.Tries p a)) b s = ⊎-elim (λ (h : p < 32). rw (lt-ltb p 32 h)) (λ (h : 32 ≤ p). rw (le-ltb p 32 h)) (less-or-not p 32)
+parts-after m (change.Called (call.Cancels p a)) b s = ⊎-elim (λ (h : p < 32). rw (lt-ltb p 32 h)) (λ (h : 32 ≤ p). rw (le-ltb p 32 h)) (less-or-not p 32)
+parts-after m (change.Fed input.Nothing) b s = refl
+parts-after m (change.Fed (input.Ends p a)) b s = ⊎-elim (λ (h : p < 32). rw (lt-ltb p 32 h)) (λ (h : 32 ≤ p). rw (le-ltb p 32 h)) (less-or-not p 32)
+parts-after m (change.Fed (input.Retries p a r)) b s = ⊎-elim (λ (h : p < 32). rw (lt-ltb p 32 h)) (λ (h : 32 ≤ p). rw (kept-retries (m .retries) r p h, le-ltb p 32 h)) (less-or-not p 32)
+parts-after m (change.Fed (input.Holds p q)) b s = ⊎-elim (λ (h : p < 16). rw (lt-ltb p 16 h)) (λ (h : 16 ≤ p). rw (le-ltb p 16 h)) (less-or-not p 16)
+parts-after m (change.Fed (input.Empties p q)) b s = rw (lt-ltb p 16 s)
+parts-after m (change.Fed (input.Offers p q round)) b s = rw (lt-ltb p 16 s)
 
 -- what is stored as an element lies inside its table
 abbrev pub Within : Touched → Type 0
@@ -141,23 +173,25 @@ Within (touched.Asked p q n) = p < 16
 Within (touched.Tried p a n) = p < 32
 Within (touched.Answered p q n) = p < 16
 Within (touched.Emptied p q n) = p < 16
-Within touched.Brought = Unit {0}
+Within (touched.Offered p q n round) = p < 16
+Within (touched.Retried p a n r) = p < 32
 
-tried-within : (n p : ℕ) (a : Attempt) → Within (triedAt n p a)
-tried-within n p a = ⊎-elim (λ (h : p < 32). rw (lt-ltb p 32 h) h) (λ (h : 32 ≤ p). rw (le-ltb p 32 h) tt) (less-or-not p 32)
+-- a test that shuts out what is outside
+tested : (limit p : ℕ) (t : Touched) → (p < limit → Within t) → Within (cond (ltb p limit) t touched.Nothing)
+tested limit p t k = ⊎-elim (λ (h : p < limit). rw (lt-ltb p limit h) (k h)) (λ (h : limit ≤ p). rw (le-ltb p limit h) tt) (less-or-not p limit)
 
 pub within : (m : Machine) (c : Change) → Within (touchedIn m c)
 within m change.Nothing = tt
 within m (change.Called call.Nothing) = tt
-within m (change.Called (call.Asks p q)) = ⊎-elim (λ (h : p < 16). rw (lt-ltb p 16 h) h) (λ (h : 16 ≤ p). rw (le-ltb p 16 h) tt) (less-or-not p 16)
-within m (change.Called (call.Tries p a)) = tried-within (m .attempts .count) p a
-within m (change.Called (call.Cancels p a)) = tried-within (m .attempts .count) p a
+within m (change.Called (call.Asks p q)) = tested 16 p _ (λ h. h)
+within m (change.Called (call.Tries p a)) = tested 32 p _ (λ h. h)
+within m (change.Called (call.Cancels p a)) = tested 32 p _ (λ h. h)
 within m (change.Fed input.Nothing) = tt
-within m (change.Fed (input.Ends p a)) = tried-within (m .attempts .count) p a
-within m (change.Fed (input.Retries p a r)) = tt
-within m (change.Fed (input.Holds p q)) = ⊎-elim (λ (h : p < 16). rw (lt-ltb p 16 h) h) (λ (h : 16 ≤ p). rw (le-ltb p 16 h) tt) (less-or-not p 16)
-within m (change.Fed (input.Empties p q)) = ⊎-elim (λ (h : p < 16). rw (lt-ltb p 16 h) h) (λ (h : 16 ≤ p). rw (le-ltb p 16 h) tt) (less-or-not p 16)
-within m (change.Fed (input.Offers p q round)) = tt
+within m (change.Fed (input.Ends p a)) = tested 32 p _ (λ h. h)
+within m (change.Fed (input.Retries p a r)) = tested 32 p _ (λ h. h)
+within m (change.Fed (input.Holds p q)) = tested 16 p _ (λ h. h)
+within m (change.Fed (input.Empties p q)) = tested 16 p _ (λ h. h)
+within m (change.Fed (input.Offers p q round)) = tested 16 p _ (λ h. h)
 
 -- a step counts one call at most
 few-by : (m : Machine) (now : ℕ) (r : Reading Told) → stepBy m now r .calls ≤ 1
@@ -183,11 +217,7 @@ turn-same m now alike e =
     ∙ (ap (λ same. turnBy same (alikeEndpoints (sameHostsOf (m .names)) (sameEchsOf (m .echs))) m now) (classes-same (m .names))
     ∙ ap (λ x. turnBy (sameAt (m .names)) x m now) (alike-bytes (m .names) (m .echs)))
 
--- The loop's parts as a machine; at its start they are the made one's
-abbrev pub parts : Rules → Timing → Alts → IdGenerator → Queries → Answers → Services → Attempts → Retries → Names → Echs → Machine
-parts r t l ids q d s a retries n e =
-    record { rules = r; timing = t; alts = l; ids = ids; queries = q; answers = d; services = s; attempts = a; retries = retries; names = n; echs = e }
-
+-- at the loop's start its parts are the made machine's
 pub made-parts : (r : Rules) (t : Timing) (l : Alts) (n : Names) (m : Machine) → m ≡ made r t l n → parts r t l (m .ids) (m .queries) (m .answers) (m .services) (m .attempts) (m .retries) (m .names) (m .echs) ≡ made r t l n
 unfolding made
 made-parts r t l n m e = ap (λ x. parts r t l (x .ids) (x .queries) (x .answers) (x .services) (x .attempts) (x .retries) (x .names) (x .echs)) e
@@ -207,6 +237,37 @@ verdictFor m now i = verdictOf (m .rules .ech) (m .queries) (m .attempts) (m .re
 
 abbrev pub Decides : Machine → classes.Alike → ℕ → EventRead → Reply → Type 0
 Decides m alike now r x = x ≡ replyBy (turnFor m alike now) (verdictFor m now) r
+
+-- its change is proper: where services come or go, the record lies inside the table that the loop holds
+fed-proper : (c : InputChange) (k a n : ℕ) → Inside (min k 16) a n c → Proper (change.Fed c)
+fed-proper input.Nothing k a n h = tt
+fed-proper (input.Ends p x) k a n h = tt
+fed-proper (input.Retries p x r) k a n h = tt
+fed-proper (input.Holds p q) k a n h = tt
+fed-proper (input.Empties p q) k a n h = omega arith
+fed-proper (input.Offers p q round) k a n h = omega arith
+
+judged-proper : (m : Machine) (now : ℕ) (i : Input) → Sized (m .queries) (m .attempts) → Proper (change.Fed (changeOf (verdictFor m now i)))
+judged-proper m now i s = by (verdictFor m now i) refl
+  where
+    by : (v : Verdict) → verdictFor m now i ≡ v → Proper (change.Fed (changeOf v))
+    by (verdict.Accepted c) e = fed-proper c _ _ _ (inside-rooms (m .rules .ech) (m .queries) (m .attempts) (m .retries .count) now (s .0) (s .1) i c e)
+    by (verdict.Refused r) e = tt
+
+event-proper : (m : Machine) (alike : classes.Alike) (now : ℕ) (e : Event) → Sized (m .queries) (m .attempts) → Proper (replyOn (turnFor m alike now) (verdictFor m now) e .change)
+event-proper m alike now event.Call s = tt
+event-proper m alike now (event.Fails k id stale) s = judged-proper m now (inputOf (event.Fails k id stale)) s
+event-proper m alike now (event.Holds k id stale l) s = judged-proper m now (inputOf (event.Holds k id stale l)) s
+event-proper m alike now (event.Success id) s = judged-proper m now (inputOf (event.Success id)) s
+event-proper m alike now (event.Failure id) s = judged-proper m now (inputOf (event.Failure id)) s
+event-proper m alike now (event.EchRetry id b) s = judged-proper m now (inputOf (event.EchRetry id b)) s
+
+read-proper : (m : Machine) (alike : classes.Alike) (now : ℕ) (r : EventRead) → Sized (m .queries) (m .attempts) → Proper (replyBy (turnFor m alike now) (verdictFor m now) r .change)
+read-proper m alike now (reads.Event e end) s = event-proper m alike now e s
+read-proper m alike now (reads.Refused e p) s = tt
+
+pub reply-proper : (m : Machine) (alike : classes.Alike) (now : ℕ) (r : EventRead) {x : Reply} → Sized (m .queries) (m .attempts) → Decides m alike now r x → Proper (x .change)
+reply-proper m alike now r s d = rw d (read-proper m alike now r s)
 
 -- the step of a body, as the loop comes to it
 pub step-made : (m : Machine) (alike : classes.Alike) (now : ℕ) (whole body : List ℕ) (r : EventRead) (e : Event) (reply : Reply) → alike ≡ alikeOf (m .names) (m .echs) → whole ≡ body → eventShown r ≡ eventAt body → e ≡ eventIn r → Decides m alike now r reply → stepIn m reply (besideOf body e) ≡ stepOf m now whole

@@ -1,7 +1,7 @@
 -- The loop's state tied to the run: what the run says from here on, behind what is written and counted, is what it says of the whole tape.
 --     tied-start      before the first event
 --     tied-go         one event more: the one law of every arm that goes on
---     tied-by, tied-brought      the parts as an arm stores them
+--     tied-by, tied-answered, tied-offered, tied-retried      the parts as an arm stores them
 --     tied-end, tied-refused, tied-full      the three ways to stop
 --     stopped         what a stopped run gives back
 use Prim.Native.Nat.{ℕ, zero, suc, _+_, _≤_, _<_}
@@ -20,20 +20,19 @@ use Rattle.numbers.specs.Put.{putAnswer, putBytes}
 use Rattle.numbers.proofs.PutLaws.{no-room, room}
 use Rattle.numbers.proofs.Cases.{less-or-not}
 use Rattle.pacing.specs.declared.id.IdGenerator.{IdGenerator}
+use Rattle.records.specs.Names.{withEch}
 use Rattle.records.specs.declared.names.Ech.{Ech}
 use Rattle.records.specs.declared.names.Echs.{Echs}
 use Rattle.records.specs.declared.names.Names.{Names}
-use Rattle.records.specs.declared.queries.Queries.{Queries}
+use Rattle.records.specs.declared.queries.Addresses.{Addresses}
+use Rattle.records.specs.declared.queries.Query.{Query}
 use Rattle.records.specs.declared.services.Services.{Services}
 use Rattle.state.specs.declared.Machine.{Machine}
-use Rattle.state.specs.declared.attempts.Attempts.{Attempts}
+use Rattle.state.specs.declared.attempts.Attempt.{Attempt}
 use Rattle.state.specs.declared.attempts.Retries.{Retries}
-use Rattle.state.specs.declared.changes.InputChange.{InputChange}
+use Rattle.state.specs.declared.changes.Round.{Round}
+use Rattle.after.specs.After.{putRetry, placedServices, putNames, putEchs}
 use Rattle.machine.specs.declared.calls.Beside.{Beside}
-use Rattle.after.specs.After.{queriesFed, attemptsFed, servicesFed, retriesFed, namesFed, echsFed}
-use Rattle.offers.specs.declared.Offered.{Offered}
-use Rattle.bodies.specs.Told.{offeredOf, retryOf, besideOf}
-use Rattle.bodies.specs.declared.Event.{Event}
 use Rattle.answers.specs.Answers.{answerBytes}
 use Rattle.replies.specs.declared.Change.{Change}
 use Rattle.replies.specs.declared.Touched.{Touched}
@@ -41,8 +40,8 @@ use Rattle.replies.specs.declared.Touched.the-variants as touched
 use Rattle.replay.specs.Frames.{Frame, frameAt}
 use Rattle.replay.specs.Replay.{Step, stepOf, Run, ended, ahead, run, runFrom}
 use Rattle.replay.proofs.Framed.{frame-lies}
-use Rattle.replies.specs.Replies.{after, changeIn, idsAfter}
-use Rattle.replay.proofs.Steps.{few-calls, parts, partsBy, touchedIn, parts-after}
+use Rattle.replies.specs.Replies.{after, idsAfter}
+use Rattle.replay.proofs.Steps.{few-calls, parts, partsBy, touchedIn, Proper, parts-after}
 
 -- `rest`, behind what is written and counted, is `all`
 pub record Onto (out₀ out : List ℕ) (written calls : ℕ) (rest all : Run) : Type 0 where
@@ -166,15 +165,22 @@ module _ (tape out₀ : List ℕ) (first : ℕ) (m₀ : Machine) (at written cal
             }
 
 -- the parts as they are stored
-pub tied-by : (tape out₀ : List ℕ) (first : ℕ) (m₀ : Machine) (at written calls : ℕ) (out : List ℕ) (m : Machine) (c : Change) (b : Beside) {x t : Touched} → x ≡ touchedIn m c → x ≡ t
+pub tied-by : (tape out₀ : List ℕ) (first : ℕ) (m₀ : Machine) (at written calls : ℕ) (out : List ℕ) (m : Machine) (c : Change) (b : Beside) {x t : Touched} → Proper c → x ≡ touchedIn m c → x ≡ t
     → Tied tape out₀ first m₀ at written calls out (after m c b) → Tied tape out₀ first m₀ at written calls out (partsBy t m c b)
-tied-by tape out₀ first m₀ at written calls out m c b {x} {t} e f i =
-    let z : after m c b ≡ partsBy t m c b = parts-after m c b ∙ ap (λ u. partsBy u m c b) (sym e ∙ f) in
+tied-by tape out₀ first m₀ at written calls out m c b {x} {t} s e f i =
+    let z : after m c b ≡ partsBy t m c b = parts-after m c b s ∙ ap (λ u. partsBy u m c b) (sym e ∙ f) in
     rw z at i
 
--- an answer or a retry that brought something: each part as its function leaves it
-pub tied-brought : (tape out₀ : List ℕ) (first : ℕ) (m₀ : Machine) (at written calls : ℕ) (out : List ℕ) (m : Machine) (c : Change) (body : List ℕ) (e : Event) {f : InputChange} {i : IdGenerator} {q : Queries} {a : Attempts} {o : Offered} {x : Ech} {s : Services} {r : Retries} {n : Names} {h : Echs}
-    → f ≡ changeIn c → i ≡ idsAfter (m .ids) c → q ≡ queriesFed (m .queries) f → a ≡ attemptsFed (m .attempts) f → o ≡ offeredOf body e → x ≡ retryOf body e → s ≡ servicesFed (m .services) f (o .services) → r ≡ retriesFed (m .retries) f → n ≡ namesFed (m .names) f (o .names) → h ≡ echsFed (m .echs) f (o .echs) x
-    → Tied tape out₀ first m₀ at written calls out (partsBy touched.Brought m c (besideOf body e)) → Tied tape out₀ first m₀ at written calls out (parts (m .rules) (m .timing) (m .alts) i q (m .answers) s a r n h)
-unfolding besideOf
-tied-brought tape out₀ first m₀ at written calls out m c body e ef ei eq ea eo ex es er en eh t = rw (es, er, en, eh, eo, ex, ei, eq, ea, ef) t
+-- and with what came beside: an answer's addresses, services with their names and ECH bytes, a retry
+module _ (tape out₀ : List ℕ) (first : ℕ) (m₀ : Machine) (at written calls : ℕ) (out : List ℕ) (m : Machine) (c : Change) (b : Beside) {i : IdGenerator} (ids : i ≡ idsAfter (m .ids) c) where
+  pub tied-answered : (p n : ℕ) (q : Query) {l : Addresses} → l ≡ b .addresses → Tied tape out₀ first m₀ at written calls out (partsBy (touched.Answered p q n) m c b)
+      → Tied tape out₀ first m₀ at written calls out (parts (m .rules) (m .timing) (m .alts) i (record { count = n; list = set (m .queries .list) p q }) (record { list = set (m .answers .list) p l }) (m .services) (m .attempts) (m .retries) (m .names) (m .echs))
+  tied-answered p n q e t = rw (ids, e) t
+
+  pub tied-offered : (p n : ℕ) (q : Query) (r : Round) {s : Services} {x : Names} {h : Echs} → s ≡ placedServices (b .services) r → x ≡ putNames (m .names) r (b .names) → h ≡ putEchs (m .echs) r (b .echs) → Tied tape out₀ first m₀ at written calls out (partsBy (touched.Offered p q n r) m c b)
+      → Tied tape out₀ first m₀ at written calls out (parts (m .rules) (m .timing) (m .alts) i (record { count = n; list = set (m .queries .list) p q }) (m .answers) s (m .attempts) (m .retries) x h)
+  tied-offered p n q r es ex eh t = rw (ids, es, ex, eh) t
+
+  pub tied-retried : (p n r : ℕ) (a : Attempt) {y : Retries} {x : Ech} → y ≡ putRetry (m .retries) r p → x ≡ b .retry → Tied tape out₀ first m₀ at written calls out (partsBy (touched.Retried p a n r) m c b)
+      → Tied tape out₀ first m₀ at written calls out (parts (m .rules) (m .timing) (m .alts) i (m .queries) (m .answers) (m .services) (record { count = n; list = set (m .attempts .list) p a }) y (m .names) (withEch (m .echs) (8 + p) x))
+  tied-retried p n r a ey ex t = rw (ids, ey, ex) t

@@ -1,6 +1,6 @@
 -- The places that a wish names lie inside their tables, whose sizes no change alters; so what is given may be given for one record and one attempt.
 use Prim.Native.Nat.{ℕ, _+_, _≤_, _<_}
-use mathlib.Core.Path.{_≡_, refl, ap, _∙_}
+use mathlib.Core.Path.{_≡_, ap, _∙_}
 use mathlib.Core.Bool.{Bool, true, false, cond, _||_}
 use mathlib.Core.List.{List, [], _∷_}
 use native.Mathlib.Omega.{arith}
@@ -19,8 +19,6 @@ use Rattle.state.specs.State.{noAttempt, noAttempts, made}
 use Rattle.state.specs.declared.Machine.{Machine}
 use Rattle.state.specs.declared.attempts.Attempt.{Attempt}
 use Rattle.state.specs.declared.attempts.Attempts.{Attempts}
-use Rattle.state.specs.declared.changes.InputChange.{InputChange}
-use Rattle.state.specs.declared.changes.InputChange.the-variants as input
 use Rattle.starting.specs.Surveys.{firstPlace, isOpenAttempt, isDueQuery, triesOf, asksOf}
 use Rattle.starting.specs.Starting.{attemptLeft, resolutionLeft}
 use Rattle.starting.specs.declared.surveys.Tries.{Tries}
@@ -29,7 +27,6 @@ use Rattle.starting.specs.declared.surveys.Place.{Place}
 use Rattle.starting.specs.declared.surveys.Place.the-variants as place
 use Rattle.upcoming.specs.declared.wanted.Wanted.{Wanted}
 use Rattle.upcoming.specs.declared.wanted.Wanted.the-variants as wanted
-use Rattle.after.specs.After.{counted, putQuery, putAttempt, queriesFed, attemptsFed}
 use Rattle.machine.specs.Output.{endWish, lastWish, timerWish, refreshWish, queryWish, nextOrigin, wishFound, wishFrom, wishQuery, wishAttempt, grantOf, granted}
 use Rattle.machine.specs.Steps.{surveyOf}
 use Rattle.machine.specs.declared.calls.Survey.{Survey}
@@ -53,42 +50,6 @@ query-sized q a p x h = (length-set (q .list) p x ∙ h .0, h .1)
 
 pub attempt-sized : (q : Queries) (a : Attempts) (p : ℕ) (x : Attempt) → Sized q a → (length (q .list) ≡ 16) × (length (set (a .list) p x) ≡ 32)
 attempt-sized q a p x h = (h .0, length-set (a .list) p x ∙ h .1)
-
-put-query-size : (q : Queries) (p : ℕ) (x : Query) → length (putQuery q p x .list) ≡ length (q .list)
-unfolding putQuery
-put-query-size q p x = by (ltb p 16)
-  where
-    by : (b : Bool) → length (cond b (record { count = counted (q .count) p; list = set (q .list) p x }) q .list) ≡ length (q .list)
-    by true = length-set (q .list) p x
-    by false = refl
-
-put-attempt-size : (a : Attempts) (p : ℕ) (x : Attempt) → length (putAttempt a p x .list) ≡ length (a .list)
-unfolding putAttempt
-put-attempt-size a p x = by (ltb p 32)
-  where
-    by : (b : Bool) → length (cond b (record { count = counted (a .count) p; list = set (a .list) p x }) a .list) ≡ length (a .list)
-    by true = length-set (a .list) p x
-    by false = refl
-
-queries-size : (q : Queries) (c : InputChange) → length (queriesFed q c .list) ≡ length (q .list)
-queries-size q input.Nothing = refl
-queries-size q (input.Ends p a) = refl
-queries-size q (input.Retries p a r) = refl
-queries-size q (input.Holds p x) = put-query-size q p x
-queries-size q (input.Empties p x) = put-query-size q p x
-queries-size q (input.Offers p x round) = put-query-size q p x
-
-attempts-size : (a : Attempts) (c : InputChange) → length (attemptsFed a c .list) ≡ length (a .list)
-attempts-size a input.Nothing = refl
-attempts-size a (input.Ends p x) = put-attempt-size a p x
-attempts-size a (input.Retries p x r) = put-attempt-size a p x
-attempts-size a (input.Holds p x) = refl
-attempts-size a (input.Empties p x) = refl
-attempts-size a (input.Offers p x round) = refl
-
-pub fed-sized : (q : Queries) (a : Attempts) {v : Queries} {b : Attempts} (c : InputChange) → v ≡ queriesFed q c → b ≡ attemptsFed a c → Sized q a → Sized v b
-fed-sized q a c e f h =
-    (ap (λ x. length (x .list)) e ∙ (queries-size q c ∙ h .0), ap (λ x. length (x .list)) f ∙ (attempts-size a c ∙ h .1))
 
 -- The places of a wish
 

@@ -1,6 +1,8 @@
-// Replay: each part of the machine lies in a local of its own, and only the record that an event changes is stored, in its place. A part that
-// is handed on is copied, so the loop itself decides: no function stands between it and those that read the parts.
+// Replay: each part of the machine lies in a local of its own, and what an event changes is stored in its place. A part that is handed on is
+// copied, so the loop itself decides: no function stands between it and those that read the parts.
 ghost use mathlib.Core.Path.{_≡_};
+ghost use mathlib.Core.Bool.{_&&_};
+ghost use lib.Dec.{eqb};
 ghost use lib.ListN.{length};
 ghost use lib.Seq.{sets};
 ghost use Rattle.numbers.specs.Put.{putAnswer, putBytes};
@@ -12,12 +14,9 @@ ghost use Rattle.replay.specs.Saying.{answerName, answerEch, saidTo};
 ghost use Rattle.replay.specs.Replay.{runFrom, Gives};
 use super::frames::FrameRead;
 use super::frames::frame_at;
-use after::attempts_fed;
-use after::echs_fed;
-use after::names_fed;
-use after::queries_fed;
-use after::retries_fed;
-use after::services_fed;
+use after::is_bare;
+use after::placed_services;
+use after::put_retry;
 use answers::writer::output_ech;
 use answers::writer::output_name;
 use answers::writer::put_output;
@@ -25,7 +24,7 @@ use answers::writer::put_taken;
 use bodies::EventRead;
 use bodies::addresses_of;
 use bodies::input_of;
-use bodies::offered_of;
+use bodies::located_of;
 use bodies::read_event;
 use bodies::retry_of;
 use input::verdict_of;
@@ -34,11 +33,16 @@ use machine::grant::grant_of;
 use machine::grant::wish_attempt;
 use machine::grant::wish_query;
 use machine::wish::Found;
-use machine::wish::found_of;
+use machine::wish::endpoint_next;
+use machine::wish::first_found;
 use machine::wish::looks;
+use machine::wish::looks_on;
+use machine::wish::retry_next;
 use machine::wish::wish_of;
 use numbers::put::Wrote;
 use numbers::refusal::refusal_number;
+use parts::room::ech_of;
+use parts::room::name_of;
 use records::names::Ech;
 use records::names::Name;
 use records::names::Names;
@@ -49,13 +53,14 @@ use records::services::no_services;
 use replies::Answer;
 use replies::Touched;
 use replies::call_reply;
-use replies::change_in;
 use replies::event_in;
 use replies::fault_reply;
 use replies::ids_after;
 use replies::input_reply;
 use replies::is_call;
 use replies::touched_of;
+use state::changes::first_ech;
+use state::changes::first_name;
 use state::made;
 use upcoming::classes::alike_of;
 
@@ -83,6 +88,16 @@ fn answer_ech(a: Answer) -> usize
         Answer::Output(o) => output_ech(o),
         Answer::Input(_) => 0,
     }
+}
+
+// Whether the classes stay as they are: no name and no ECH bytes were at the places of a round, and none came.
+fn is_still(bare: bool, services: usize) -> bool
+    ensures { λ r. ⌜ r ≡ bare && eqb services 0 ⌝ }
+{
+    if bare {
+        return services == 0;
+    }
+    false
 }
 
 // `origin` is the origin's name; `name` and `ech` are what lies at the places that the answer has.
@@ -159,17 +174,29 @@ pub fn run(
                             let look = seen.look;
                             let mut found = Found::Nothing;
                             if looks(look) {
-                                found = found_of(
-                                    look,
+                                let same = alike.names;
+                                let retry = retry_next(look.retry, attempts, retries, alike);
+                                let on = looks_on(look.next, retry);
+                                let endpoint = endpoint_next(
+                                    on,
                                     rules,
                                     alts,
                                     queries,
                                     answers,
                                     services,
                                     attempts,
-                                    retries,
-                                    asks,
                                     alike,
+                                );
+                                found = first_found(
+                                    retry,
+                                    endpoint,
+                                    look.query,
+                                    rules,
+                                    alts,
+                                    queries,
+                                    services,
+                                    asks,
+                                    same,
                                 );
                             }
                             let w = wish_of(rules, timing, tries, asks, found, attempts.count, now);
@@ -238,19 +265,51 @@ pub fn run(
                                 queries.count = n;
                                 services = no_services();
                             }
-                            Touched::Brought => {
-                                let fed = change_in(change);
-                                queries = queries_fed(queries, fed);
-                                attempts = attempts_fed(attempts, fed);
-                                let o = offered_of(body, event);
+                            Touched::Offered(p, q, n, round) => {
+                                queries.list[p] = q;
+                                queries.count = n;
+                                let o = located_of(body, event);
                                 let offered = o.services;
-                                let targets = o.names;
+                                services = placed_services(offered, round);
+                                let still = is_still(is_bare(names, echs, round), offered.count);
+                                let base = first_name(round) as usize;
+                                let spans = o.names;
+                                let b0 = spans[0];
+                                let b1 = spans[1];
+                                let b2 = spans[2];
+                                let b3 = spans[3];
+                                let n0 = name_of(body, b0);
+                                let n1 = name_of(body, b1);
+                                let n2 = name_of(body, b2);
+                                let n3 = name_of(body, b3);
+                                names.list[base] = n0;
+                                names.list[base + 1] = n1;
+                                names.list[base + 2] = n2;
+                                names.list[base + 3] = n3;
+                                let g = first_ech(round) as usize;
                                 let sealed = o.echs;
+                                let s0 = sealed[0];
+                                let s1 = sealed[1];
+                                let s2 = sealed[2];
+                                let s3 = sealed[3];
+                                let e0 = ech_of(body, s0);
+                                let e1 = ech_of(body, s1);
+                                let e2 = ech_of(body, s2);
+                                let e3 = ech_of(body, s3);
+                                echs.list[g] = e0;
+                                echs.list[g + 1] = e1;
+                                echs.list[g + 2] = e2;
+                                echs.list[g + 3] = e3;
+                                if !still {
+                                    alike = alike_of(names, echs);
+                                }
+                            }
+                            Touched::Retried(p, a, n, r) => {
+                                attempts.list[p] = a;
+                                attempts.count = n;
+                                retries = put_retry(retries, r, p);
                                 let x = retry_of(body, event);
-                                services = services_fed(services, fed, offered);
-                                retries = retries_fed(retries, fed);
-                                names = names_fed(names, fed, targets);
-                                echs = echs_fed(echs, fed, sealed, x);
+                                echs.list[8 + p] = x;
                                 alike = alike_of(names, echs);
                             }
                         }

@@ -11,6 +11,7 @@ use Rattle.state.specs.declared.changes.CallChange.{CallChange}
 use Rattle.state.specs.declared.changes.CallChange.the-variants as call
 use Rattle.state.specs.declared.changes.InputChange.{InputChange}
 use Rattle.state.specs.declared.changes.InputChange.the-variants as input
+use Rattle.state.specs.declared.changes.Round.{Round}
 use Rattle.input.specs.declared.Verdict.{Verdict}
 use Rattle.machine.specs.declared.calls.Beside.{Beside}
 use Rattle.machine.specs.declared.calls.Taken.the-variants as taken
@@ -71,12 +72,7 @@ after m change.Nothing b = m
 after m (change.Called c) b = called m c
 after m (change.Fed c) b = fed m c b
 
--- what an input changes, and the ids after a change
-abbrev pub changeIn : Change → InputChange
-changeIn change.Nothing = input.Nothing
-changeIn (change.Called c) = input.Nothing
-changeIn (change.Fed c) = c
-
+-- the ids after a change
 abbrev pub idsAfter : IdGenerator → Change → IdGenerator
 idsAfter i change.Nothing = i
 idsAfter i (change.Called c) = idsCalled i c
@@ -93,7 +89,13 @@ abbrev pub answeredAt : ℕ → ℕ → Query → Touched
 answeredAt n p q = cond (ltb p 16) (touched.Answered p q (counted n p)) touched.Nothing
 
 abbrev pub emptiedAt : ℕ → ℕ → Query → Touched
-emptiedAt n p q = cond (ltb p 16) (touched.Emptied p q (counted n p)) touched.Brought
+emptiedAt n p q = cond (ltb p 16) (touched.Emptied p q (counted n p)) touched.Nothing
+
+abbrev pub offeredAt : ℕ → ℕ → Query → Round → Touched
+offeredAt n p q round = cond (ltb p 16) (touched.Offered p q (counted n p) round) touched.Nothing
+
+abbrev pub retriedAt : ℕ → ℕ → Attempt → ℕ → Touched
+retriedAt n p a r = cond (ltb p 32) (touched.Retried p a (counted n p) r) touched.Nothing
 
 -- with so many query records and attempts before
 abbrev pub touchedByCall : (asked tried : ℕ) → CallChange → Touched
@@ -105,10 +107,10 @@ touchedByCall asked tried (call.Cancels p a) = triedAt tried p a
 abbrev pub touchedByInput : (asked tried : ℕ) → InputChange → Touched
 touchedByInput asked tried input.Nothing = touched.Nothing
 touchedByInput asked tried (input.Ends p a) = triedAt tried p a
-touchedByInput asked tried (input.Retries p a r) = touched.Brought
+touchedByInput asked tried (input.Retries p a r) = retriedAt tried p a r
 touchedByInput asked tried (input.Holds p q) = answeredAt asked p q
 touchedByInput asked tried (input.Empties p q) = emptiedAt asked p q
-touchedByInput asked tried (input.Offers p q round) = touched.Brought
+touchedByInput asked tried (input.Offers p q round) = offeredAt asked p q round
 
 abbrev pub touchedOf : (asked tried : ℕ) → Change → Touched
 touchedOf asked tried change.Nothing = touched.Nothing

@@ -1,8 +1,8 @@
 // What an event is answered and what it changes, from what a call is given or what becomes of an input.
 ghost use Prim.Native.Nat.{_<_};
 ghost use mathlib.Core.Path.{_≡_};
-ghost use Rattle.replies.specs.Replies.{callReply, inputReply, faultReply, eventIn, isCall, changeIn};
-ghost use Rattle.replies.specs.Replies.{idsAfter, askedAt, triedAt, answeredAt, emptiedAt, touchedByCall, touchedByInput, touchedOf};
+ghost use Rattle.replies.specs.Replies.{callReply, inputReply, faultReply, eventIn, isCall};
+ghost use Rattle.replies.specs.Replies.{idsAfter, askedAt, triedAt, answeredAt, emptiedAt, offeredAt, retriedAt, touchedByCall, touchedByInput, touchedOf};
 ghost use Rattle.after.specs.After.{counted};
 use after::ids_called;
 use bodies::Event;
@@ -19,6 +19,7 @@ use records::queries::Query;
 use state::attempts::Attempt;
 use state::changes::CallChange;
 use state::changes::InputChange;
+use state::changes::Round;
 
 // A call's output, or what became of an input.
 pub enum Answer {
@@ -40,14 +41,16 @@ pub struct Reply {
 }
 
 // What a change stores beside the ids: nothing; one query record, or one attempt, with its place and how many its table then has; such a
-// record with its addresses, or with no service held any more; all parts but the addresses.
+// record with its addresses, with no service held any more, or with the services of a round; such an attempt with the retry that came for it
+// and that retry's place.
 pub enum Touched {
     Nothing,
     Asked(usize, Query, usize),
     Tried(usize, Attempt, usize),
     Answered(usize, Query, usize),
     Emptied(usize, Query, usize),
-    Brought,
+    Offered(usize, Query, usize, Round),
+    Retried(usize, Attempt, usize, usize),
 }
 
 pub fn call_reply(turn: Turn) -> Reply
@@ -108,16 +111,6 @@ pub fn is_call(e: Event) -> bool
     }
 }
 
-pub fn change_in(change: Change) -> InputChange
-    ensures { λ r. ⌜ r ≡ changeIn change ⌝ }
-{
-    match change {
-        Change::Nothing => InputChange::Nothing,
-        Change::Called(_) => InputChange::Nothing,
-        Change::Fed(c) => c,
-    }
-}
-
 pub fn ids_after(ids: IdGenerator, change: Change) -> IdGenerator
     ensures { λ r. ⌜ r ≡ idsAfter ids change ⌝ }
 {
@@ -164,14 +157,31 @@ fn answered_at(n: usize, p: usize, q: Query) -> Touched
     Touched::Answered(p, q, filled(n, p))
 }
 
-// Services go all the same.
 fn emptied_at(n: usize, p: usize, q: Query) -> Touched
     ensures { λ r. ⌜ r ≡ emptiedAt n p q ⌝ }
 {
     if 16 <= p {
-        return Touched::Brought;
+        return Touched::Nothing;
     }
     Touched::Emptied(p, q, filled(n, p))
+}
+
+fn offered_at(n: usize, p: usize, q: Query, round: Round) -> Touched
+    ensures { λ r. ⌜ r ≡ offeredAt n p q round ⌝ }
+{
+    if 16 <= p {
+        return Touched::Nothing;
+    }
+    Touched::Offered(p, q, filled(n, p), round)
+}
+
+fn retried_at(n: usize, p: usize, a: Attempt, r: usize) -> Touched
+    ensures { λ t. ⌜ t ≡ retriedAt n p a r ⌝ }
+{
+    if 32 <= p {
+        return Touched::Nothing;
+    }
+    Touched::Retried(p, a, filled(n, p), r)
 }
 
 fn call_touches(asked: usize, tried: usize, c: CallChange) -> Touched
@@ -191,10 +201,10 @@ fn input_touches(asked: usize, tried: usize, c: InputChange) -> Touched
     match c {
         InputChange::Nothing => Touched::Nothing,
         InputChange::Ends(p, a) => tried_at(tried, p, a),
-        InputChange::Retries(_, _, _) => Touched::Brought,
+        InputChange::Retries(p, a, r) => retried_at(tried, p, a, r),
         InputChange::Holds(p, q) => answered_at(asked, p, q),
         InputChange::Empties(p, q) => emptied_at(asked, p, q),
-        InputChange::Offers(_, _, _) => Touched::Brought,
+        InputChange::Offers(p, q, round) => offered_at(asked, p, q, round),
     }
 }
 

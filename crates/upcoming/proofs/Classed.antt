@@ -20,7 +20,7 @@ use Rattle.records.specs.declared.endpoints.Target.the-variants.{V4, V6, Named}
 use Rattle.records.specs.declared.endpoints.Endpoint.{Endpoint}
 use Rattle.records.proofs.Bytes.{same-refl, other-length}
 use Rattle.records.proofs.SameName.{Equivalence, same-bytes, by-bytes}
-use Rattle.records.proofs.Classes.{Table, by-class, class-is, Classed, Held, held-bytes, name-outside}
+use Rattle.records.proofs.Classes.{Table, by-class, class-is, Classed, Held, held-bytes, name-outside, name-inside}
 use Rattle.records.proofs.Alike.{head-first}
 use Rattle.upcoming.specs.Alike.{sameHostAt, sameEchAt, sameHostsOf, sameEchsOf, hostClass, echClass, alikeHosts, alikeEchs, alikeEndpoints}
 
@@ -53,6 +53,19 @@ host-table names = record { alike = by-bytes sameBytes same-bytes (hostAt names)
 pub origin-out : (names : Names) (p : ℕ) → sameHostAt names 14 p ≡ sameHostAt names 0 p
 unfolding sameHostAt
 origin-out names p = ap (λ z. sameBytes z (hostAt names p)) (origin-outside names)
+
+-- an empty name falls back on the origin's
+fallen-back : (origin own : List ℕ) → length own ≡ 0 → connectName origin [] ≡ connectName origin own
+fallen-back origin [] e = refl
+fallen-back origin (b ∷ s) e = absurd (omega arith)
+
+host-empty : (names : Names) (p : ℕ) → p < 14 → length (nameBytes (getD (names .list) p blankName)) ≡ 0 → hostAt names 14 ≡ hostAt names p
+unfolding hostAt
+host-empty names p h e = rw (name-outside names 14 (omega arith), name-inside names p h) (fallen-back _ _ e)
+
+pub empty-out : (names : Names) (p : ℕ) → p < 14 → length (nameBytes (getD (names .list) p blankName)) ≡ 0 → sameHostAt names 14 p ≡ true
+unfolding sameHostAt
+empty-out names p h e = same-of (hostAt names) 14 p (host-empty names p h e)
 
 pub host-in : (names : Names) (p q : ℕ) → p < 14 → q < 14
     → sameBytes (connectName (nameBytes (getD (names .list) 0 blankName)) (nameBytes (getD (names .list) q blankName))) (connectName (nameBytes (getD (names .list) 0 blankName)) (nameBytes (getD (names .list) p blankName))) ≡ sameHostAt names q p

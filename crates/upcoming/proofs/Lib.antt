@@ -2,3 +2,4 @@
 pub mod Wanting
 pub mod Nexts
 pub mod Classed
+pub mod Kept

@@ -9,6 +9,7 @@ use super::alike::SameHosts;
 use records::names::Ech;
 use records::names::Echs;
 use records::names::Names;
+use records::names::name_len;
 use records::names::same_connected;
 use records::names::same_ech;
 use records::names::same_names;
@@ -23,6 +24,12 @@ fn same_hosts(names: Names) -> SameHosts
     let mut q: usize = 0;
     let origin = names.list[0];
     while p < 14 {
+        if name_len(names.list[p]) == 0 {
+            list[p] = 14;
+            p += 1;
+            q = 0;
+            continue;
+        }
         if q == p {
             list[p] = p as u8;
             p += 1;

@@ -1,81 +1,18 @@
 -- `bodies::offered_of` meets its contract.
+use mathlib.Core.Path.{sym}
 use borrow.Author.Needs.{needs}
+use Rattle.bodies.proofs.Brought.{offered-rooms}
 use Rattle.bodies.proofs.offered_of.Statement.{statement}
 use Rattle.bodies.proofs.offered_of.Tie as tie
 
-enum-told : tie.Need-enum-told
-enum-told c = search needs
+located-of-requires : tie.Need-located-of-requires
+located-of-requires c κs = search needs
 
-no-offered-requires : tie.Need-no-offered-requires
-no-offered-requires c κs = search needs
-
-enum-told-2 : tie.Need-enum-told-2
-enum-told-2 c = search needs
-
-no-offered-requires-2 : tie.Need-no-offered-requires-2
-no-offered-requires-2 c κs = search needs
-
-enum-known-e : tie.Need-enum-known-e
-enum-known-e c = search needs
-
-offered-for-requires : tie.Need-offered-for-requires
-offered-for-requires c κs = search needs
-
-enum-told-3 : tie.Need-enum-told-3
-enum-told-3 c = search needs
-
-no-offered-requires-3 : tie.Need-no-offered-requires-3
-no-offered-requires-3 c κs = search needs
-
-enum-told-4 : tie.Need-enum-told-4
-enum-told-4 c = search needs
-
-no-offered-requires-4 : tie.Need-no-offered-requires-4
-no-offered-requires-4 c κs = search needs
-
-enum-told-5 : tie.Need-enum-told-5
-enum-told-5 c = search needs
-
-no-offered-requires-5 : tie.Need-no-offered-requires-5
-no-offered-requires-5 c κs = search needs
+in-rooms-requires : tie.Need-in-rooms-requires
+in-rooms-requires c κs = search needs
 
 returns : tie.Need-returns
-returns c = search needs
-
-returns-2 : tie.Need-returns-2
-returns-2 c = search needs
-
-returns-3 : tie.Need-returns-3
-returns-3 c = rw (c .before .before .e .given .1) (c .offered-for .ensures)
-
-returns-4 : tie.Need-returns-4
-returns-4 c = search needs
-
-returns-5 : tie.Need-returns-5
-returns-5 c = search needs
-
-returns-6 : tie.Need-returns-6
-returns-6 c = search needs
+returns c = rw (c .in-rooms .ensures, c .before .located-of .ensures) (sym (offered-rooms _ (c .before .before .before .args .e)))
 
 pub offered-of-spec : {M : Type 1} → statement M
-offered-of-spec =
-    tie.close
-    (tie.spec
-    enum-told
-    no-offered-requires
-    enum-told-2
-    no-offered-requires-2
-    enum-known-e
-    offered-for-requires
-    enum-told-3
-    no-offered-requires-3
-    enum-told-4
-    no-offered-requires-4
-    enum-told-5
-    no-offered-requires-5
-    returns
-    returns-2
-    returns-3
-    returns-4
-    returns-5
-    returns-6)
+offered-of-spec = tie.close (tie.spec located-of-requires in-rooms-requires returns)

@@ -51,7 +51,8 @@ struct Race {
 pub fn run() {
     let mut races = [
         Race::of("small, HTTPS failed", small()),
-        Race::of("small, HTTPS answered", answered()),
+        Race::of("small, HTTPS answered", answered(vec![])),
+        Race::of("small, one service", answered(vec![sealed()])),
         Race::of("16 attempts", raced(16, 1)),
         Race::of("32 attempts, 2 services", raced(32, 2)),
     ];
@@ -199,15 +200,25 @@ fn small() -> History {
         .call(30 * MS)
 }
 
-/// Eleven calls beside four inputs: HTTPS is answered with no service, an attempt over IPv6 and, when its timer is over, one over
-/// IPv4, which wins. An HTTPS answer has replay store whole tables of names and ECH bytes.
-fn answered() -> History {
+/// A service of the origin's own name with ECH and a hint of each family.
+fn sealed() -> Service {
+    Service {
+        ech: Some(vec![7; 64]),
+        v4: vec![v4(1)],
+        v6: vec![v6(1)],
+        ..Service::new(1, ORIGIN, 3)
+    }
+}
+
+/// Eleven calls beside four inputs: HTTPS is answered with these services, an attempt over IPv6 and, when its timer is over, one
+/// over IPv4, which wins.
+fn answered(items: Vec<Service>) -> History {
     History::new(Configuration::named(ORIGIN))
         .calls(0, 4)
         .tell(9 * MS, Body::A { id: 2, flags: 0, items: vec![v4(1)] })
         .call(9 * MS)
         .tell(14 * MS, Body::Aaaa { id: 1, flags: 0, items: vec![(v6(1), 0)] })
-        .tell(20 * MS, Body::Https { id: 0, flags: 0, items: vec![] })
+        .tell(20 * MS, Body::Https { id: 0, flags: 0, items })
         .calls(20 * MS, 2)
         .calls(270 * MS, 2)
         .tell(300 * MS, Body::Success(4))

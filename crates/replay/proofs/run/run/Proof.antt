@@ -3,23 +3,32 @@ use Prim.Native.Nat.{ℕ, _+_, _-_, _<_}
 use mathlib.Core.Path.{_≡_, sym, ap, _∙_}
 use native.Mathlib.Omega.{arith}
 use mathlib.Core.Logic.{⊎-elim}
+use mathlib.Core.Bool.{true, _&&_}
 use mathlib.Core.List.{List}
-use lib.ListN.{length, take, drop}
+use lib.Dec.{eqb}
+use lib.ListN.{length, set, take, drop}
+use borrow.Author.Tests.{not-false}
 use Rattle.numbers.specs.Got.{got}
 use Rattle.numbers.specs.Fields.{spanBytes}
 use Rattle.numbers.specs.Put.{putAnswer, putBytes}
 use Rattle.numbers.specs.Shown.{wroteShown}
 use Rattle.records.specs.Classes.{sameClass}
+use Rattle.records.specs.declared.names.Names.{Names}
+use Rattle.records.specs.declared.names.Echs.{Echs}
+use Rattle.records.specs.declared.queries.Queries.{Queries}
 use Rattle.upcoming.specs.Alike.{alikeEndpoints, alikeOf}
 use Rattle.state.specs.State.{made}
 use Rattle.state.specs.declared.Machine.{Machine}
+use Rattle.state.specs.declared.changes.Round.{Round}
+use Rattle.after.specs.After.{putNames, putEchs}
 use Rattle.bodies.specs.Told.{besideOf}
+use Rattle.bodies.specs.declared.Event.{Event}
 use Rattle.answers.specs.Answers.{answerBytes}
 use Rattle.input.specs.declared.Input.{Input}
 use Rattle.input.specs.declared.Verdict.{Verdict}
 use Rattle.machine.specs.Output.{foundBy}
 use Rattle.machine.specs.declared.grant.Turn.{Turn}
-use Rattle.machine.proofs.Looking.{found-nothing}
+use Rattle.machine.proofs.Looking.{found-nothing, found-by}
 use Rattle.replies.specs.Replies.{callReply}
 use Rattle.replies.specs.declared.Reply.{Reply}
 use Rattle.replies.specs.declared.Touched.{Touched}
@@ -27,9 +36,10 @@ use Rattle.replies.proofs.Replying.{refused-by, called-by, fed-by}
 use Rattle.replay.specs.Replay.{Step, stepOf}
 use Rattle.replay.specs.Frames.{Frame, frameAt, frameShown}
 use Rattle.replay.proofs.Framed.{Lies, frame-lies}
-use Rattle.replay.proofs.Wished.{Sized, made-sized, query-sized, attempt-sized, fed-sized, Inside, seen-inside, granted-at}
-use Rattle.replay.proofs.Steps.{turnFor, verdictFor, Decides, turn-seen, stepIn, partsBy, Within, within, few-calls, parts, made-parts, step-made, said-in, name-inside, ech-inside}
-use Rattle.replay.proofs.Turning.{Tied, tied-start, tied-go, tied-by, tied-brought, tied-end, tied-refused, tied-full, stopped, did-not}
+use Rattle.replay.proofs.Wished.{Sized, made-sized, query-sized, attempt-sized, Inside, seen-inside, granted-at}
+use Rattle.replay.proofs.Steps.{turnFor, verdictFor, Decides, turn-seen, stepIn, partsBy, Within, within, reply-proper, few-calls, parts, made-parts, step-made, said-in, name-inside, ech-inside}
+use Rattle.replay.proofs.Turning.{Tied, tied-start, tied-go, tied-by, tied-answered, tied-offered, tied-retried, tied-end, tied-refused, tied-full, stopped, did-not}
+use Rattle.replay.proofs.Stored.{names-inside, echs-inside, four, services-stored, names-stored, echs-stored, still-alike}
 use borrow.Author.Needs.{needs}
 use Rattle.replay.proofs.run.run.Statement.{statement}
 use Rattle.replay.proofs.run.run.Tie as tie
@@ -95,7 +105,7 @@ refused-reply c = let e = c .before .before .before .before in refused-by (given
 -- a call: what is found, what the wish is about, and what is given
 found-there : (c : tie.Joined2 Inv-loop μ-loop)
     → c .if2 .found ≡ foundBy (sameClass (ahead (c .before .before .before .before .before .before .before .before .before .before) .loop .alike .names)) (alikeEndpoints (ahead (c .before .before .before .before .before .before .before .before .before .before) .loop .alike .hosts) (ahead (c .before .before .before .before .before .before .before .before .before .before) .loop .alike .echs)) (c .before .before .before .before .before .survey-of .result .look) (c .before .before .before .before .before .survey-of .result .asks .asked) (held (ahead (c .before .before .before .before .before .before .before .before .before .before)) .rules) (held (ahead (c .before .before .before .before .before .before .before .before .before .before)) .alts) (held (ahead (c .before .before .before .before .before .before .before .before .before .before)) .queries) (held (ahead (c .before .before .before .before .before .before .before .before .before .before)) .answers) (held (ahead (c .before .before .before .before .before .before .before .before .before .before)) .services) (held (ahead (c .before .before .before .before .before .before .before .before .before .before)) .attempts) (held (ahead (c .before .before .before .before .before .before .before .before .before .before)) .retries)
-found-there c = ⊎-elim (λ w. w .2 ∙ w .1 .ensures) (λ w. w .1 ∙ sym (found-nothing _ _ _ _ _ _ _ _ _ _ _ (sym (c .before .looks .ensures) ∙ w .0 .left))) (c .if2 .came)
+found-there c = ⊎-elim (λ w. w .6 ∙ found-by _ _ _ _ _ _ _ _ _ _ _ (w .2 .ensures) (w .3 .ensures) (w .4 .ensures) (w .5 .ensures)) (λ w. w .1 ∙ sym (found-nothing _ _ _ _ _ _ _ _ _ _ _ (sym (c .before .looks .ensures) ∙ w .0 .left))) (c .if2 .came)
 
 wished : (c : tie.After-wish-of Inv-loop μ-loop) → Inside (c .wish-of .result)
 wished c = seen-inside _ _ _ _ _ _ _ _ _ _ (ahead (c .before .before .before .before .before .before .before .before .before .before .before) .loop .inv .2) (c .before .before .before .before .before .before .survey-of .ensures) (c .wish-of .ensures)
@@ -174,7 +184,7 @@ goes : (c : tie.After-touched-of Inv-loop μ-loop) {t : Touched} → c .touched-
 goes c told =
     let y = answered c in
     let h = top y in
-    tied-by _ _ _ _ _ _ _ _ (held h) (replied y .match2 .reply .change) (besideOf (bytes y) (replied y .before .event-in .result)) (c .touched-of .ensures) told
+    tied-by _ _ _ _ _ _ _ _ (held h) (replied y .match2 .reply .change) (besideOf (bytes y) (replied y .before .event-in .result)) (reply-proper (held h) (h .loop .alike) (frame (in-frame y) .moment) (replied y .before .before .read-event .result) (h .loop .inv .2) (replying (replied y))) (c .touched-of .ensures) told
     (tied-go (entry h .args .tape .now) (entry h .args .out .now) (entry h .args .first) (begun h) (h .loop .at) (h .loop .written) (h .loop .calls) (h .loop .out) (held h) (came (in-frame y)) (step y) (h .loop .inv .0) (y .before .before .before .before .before .before .before .before .before .before .before .before .before .before .before .loop-test .taken) (sym (ap wroteShown (c .before .before .before .wrote .given .1)) ∙ shown y) (stored y))
 
 less : (c : tie.After-touched-of Inv-loop μ-loop) → length (entry (began c) .args .tape .now) - after (in-frame (answered c)) < length (entry (began c) .args .tape .now) - began c .loop .at
@@ -183,6 +193,93 @@ less c = let y = answered c in omega (arith, lies (in-frame y) .before, y .befor
 -- the place of what is stored lies inside its table
 inside : (c : tie.After-touched-of Inv-loop μ-loop) {t : Touched} → c .touched-of .result ≡ t → Within t
 inside c told = rw (← told, c .touched-of .ensures) (within (held (began c)) (replied (answered c) .match2 .reply .change))
+
+-- what is known of an HTTPS answer whose names are read, and whose ECH bytes are: where its services stand, and the change that stores them
+abbrev locating : tie.After-name-of4 Inv-loop μ-loop → tie.After-located-of Inv-loop μ-loop
+locating c = c .before .before .before .before .before .before .before .before .before .before .before .before .before .before
+
+abbrev naming : tie.After-ech-of4 Inv-loop μ-loop → tie.After-name-of4 Inv-loop μ-loop
+naming k = k .before .before .before .before .before .before .before .before .before .before
+
+abbrev located : tie.After-ech-of4 Inv-loop μ-loop → tie.After-located-of Inv-loop μ-loop
+located k = locating (naming k)
+
+abbrev testing : tie.After-ech-of4 Inv-loop μ-loop → tie.After-is-still Inv-loop μ-loop
+testing k = naming k .before .before .before .before .before .before .before .before .before .before
+
+abbrev round-of : tie.After-located-of Inv-loop μ-loop → Round
+round-of c = c .before .before .touched5 .given .0 .1 .1 .1 .0
+
+abbrev from-change : tie.After-ech-of4 Inv-loop μ-loop → tie.After-touched-of Inv-loop μ-loop
+from-change k = located k .before .before .before .before
+
+-- the body and the event that brought them
+abbrev telling : tie.After-ech-of4 Inv-loop μ-loop → tie.After-put-answer Inv-loop μ-loop
+telling k = answered (from-change k)
+
+abbrev told : tie.After-ech-of4 Inv-loop μ-loop → Event
+told k = replied (telling k) .before .event-in .result
+
+-- the first places of the round, inside the tables
+abbrev name-place : tie.After-name-of4 Inv-loop μ-loop → tie.After-first-name Inv-loop μ-loop
+name-place c = c .before .before .before .before .before .before .before .before .before
+
+abbrev ech-place : tie.After-ech-of4 Inv-loop μ-loop → tie.After-first-ech Inv-loop μ-loop
+ech-place k = k .before .before .before .before .before .before .before .before .before
+
+named-round : (c : tie.After-name-of4 Inv-loop μ-loop) → name-place c .first-name .result + 3 < 14
+named-round c = rw (name-place c .first-name .ensures) (names-inside (round-of (locating c)))
+
+sealed-round : (k : tie.After-ech-of4 Inv-loop μ-loop) → ech-place k .first-ech .result + 3 < 40
+sealed-round k = rw (ech-place k .first-ech .ensures) (echs-inside (round-of (located k)))
+
+-- the record, the names and the ECH bytes as they are stored
+abbrev new-queries : tie.After-ech-of4 Inv-loop μ-loop → Queries
+new-queries k =
+    let g = located k .before .before .touched5 .given .0 in
+    record { count = g .1 .1 .0; list = set (top (telling k) .loop .queries .list) (g .0) (g .1 .0) }
+
+abbrev new-names : tie.After-ech-of4 Inv-loop μ-loop → Names
+new-names k =
+    let w = naming k in
+    record { list = four (top (telling k) .loop .names .list) (name-place w .first-name .result) (w .before .before .before .name-of .result) (w .before .before .name-of2 .result) (w .before .name-of3 .result) (w .name-of4 .result) }
+
+abbrev new-echs : tie.After-ech-of4 Inv-loop μ-loop → Echs
+new-echs k =
+    record { list = four (top (telling k) .loop .echs .list) (ech-place k .first-ech .result) (k .before .before .before .ech-of .result) (k .before .before .ech-of2 .result) (k .before .ech-of3 .result) (k .ech-of4 .result) }
+
+names-so : (k : tie.After-ech-of4 Inv-loop μ-loop) → new-names k ≡ putNames (top (telling k) .loop .names) (round-of (located k)) (besideOf (bytes (telling k)) (told k) .names)
+names-so k =
+    let w = naming k in
+    names-stored _ (told k) (located k .located-of .ensures) _ (round-of (located k)) (name-place w .first-name .ensures) (w .before .before .before .name-of .ensures, w .before .before .name-of2 .ensures, w .before .name-of3 .ensures, w .name-of4 .ensures)
+
+echs-so : (k : tie.After-ech-of4 Inv-loop μ-loop) → new-echs k ≡ putEchs (top (telling k) .loop .echs) (round-of (located k)) (besideOf (bytes (telling k)) (told k) .echs)
+echs-so k =
+    echs-stored _ (told k) (located k .located-of .ensures) _ (round-of (located k)) (ech-place k .first-ech .ensures) (k .before .before .before .ech-of .ensures, k .before .before .ech-of2 .ensures, k .before .ech-of3 .ensures, k .ech-of4 .ensures)
+
+-- the parts with them are those that the change leaves
+offers-tied : (k : tie.After-ech-of4 Inv-loop μ-loop)
+    → Tied (entry (top (telling k)) .args .tape .now) (entry (top (telling k)) .args .out .now) (entry (top (telling k)) .args .first) (begun (top (telling k))) (after (in-frame (telling k))) (from-change k .before .before .before .wrote .given .0 .0)
+    (top (telling k) .loop .calls + replied (telling k) .match2 .reply .calls) (telling k .put-answer .last .0)
+    (parts (entry (top (telling k)) .args .rules) (entry (top (telling k)) .args .timing) (entry (top (telling k)) .args .alts) (from-change k .before .ids-after .result) (new-queries k) (top (telling k) .loop .answers) (testing k .before .before .placed-services .result) (top (telling k) .loop .attempts) (top (telling k) .loop .retries) (new-names k) (new-echs k))
+offers-tied k =
+    let l = located k in
+    let g = l .before .before .touched5 .given in
+    let t = from-change k in
+    let y = telling k in
+    tied-offered _ _ _ _ _ _ _ _ (held (top y)) (replied y .match2 .reply .change) (besideOf (bytes y) (told k)) (t .before .ids-after .ensures) (g .0 .0) (g .0 .1 .1 .0) (g .0 .1 .0) (round-of l) (services-stored (bytes y) (told k) (l .located-of .ensures) (round-of l) (testing k .before .before .placed-services .ensures)) (names-so k) (echs-so k) (goes t (g .1))
+
+offers-sized : (k : tie.After-ech-of4 Inv-loop μ-loop) → Sized (new-queries k) (top (telling k) .loop .attempts)
+offers-sized k = query-sized (top (telling k) .loop .queries) (top (telling k) .loop .attempts) _ _ (top (telling k) .loop .inv .2)
+
+-- and the classes stay where no bytes were there and none came
+offers-still : (k : tie.After-ech-of4 Inv-loop μ-loop) → testing k .is-still .result ≡ true → top (telling k) .loop .alike ≡ alikeOf (new-names k) (new-echs k)
+offers-still k still =
+    let w = naming k in
+    let l = located k in
+    let test = ap (λ x. x && eqb (l .located-of .result .services .count) 0) (sym (testing k .before .is-bare .ensures)) ∙ (sym (testing k .is-still .ensures) ∙ still) in
+    top (telling k) .loop .inv .1
+    ∙ sym (still-alike (bytes (telling k)) (told k) (l .located-of .ensures) (top (telling k) .loop .names) (top (telling k) .loop .echs) (round-of l) (name-place w .first-name .ensures) (w .before .before .before .name-of .ensures, w .before .before .name-of2 .ensures, w .before .name-of3 .ensures, w .name-of4 .ensures) (ech-place k .first-ech .ensures) (k .before .before .before .ech-of .ensures, k .before .before .ech-of2 .ensures, k .before .ech-of3 .ensures, k .ech-of4 .ensures) test)
 
 named : (c : tie.After-answer-name Inv-loop μ-loop) → c .answer-name .result < 14
 named c = rw (c .answer-name .ensures) (name-inside (c .before .match2 .reply .answer))
@@ -255,8 +352,17 @@ survey-of-requires c κs = search needs
 looks-requires : tie.Need-looks-requires Inv-loop μ-loop
 looks-requires c κs = search needs
 
-found-of-requires : tie.Need-found-of-requires Inv-loop μ-loop
-found-of-requires c κs = search needs
+retry-next-requires : tie.Need-retry-next-requires Inv-loop μ-loop
+retry-next-requires c κs = search needs
+
+looks-on-requires : tie.Need-looks-on-requires Inv-loop μ-loop
+looks-on-requires c κs = search needs
+
+endpoint-next-requires : tie.Need-endpoint-next-requires Inv-loop μ-loop
+endpoint-next-requires c κs = search needs
+
+first-found-requires : tie.Need-first-found-requires Inv-loop μ-loop
+first-found-requires c κs = search needs
 
 wish-of-requires : tie.Need-wish-of-requires Inv-loop μ-loop
 wish-of-requires c κs = search needs
@@ -416,7 +522,13 @@ loop-less-4 c = less (c .before .before .before .before)
 
 loop-again-4 : tie.Need-loop-again-4 Inv-loop μ-loop
 unfolding besideOf
-loop-again-4 c = (rw (c .addresses-of .ensures, c .before .before .before .before .before .ids-after .ensures) (goes (c .before .before .before .before) (c .before .before .touched3 .given .1)), began (c .before .before .before .before) .loop .inv .1, query-sized (began (c .before .before .before .before) .loop .queries) (began (c .before .before .before .before) .loop .attempts) _ _ (began (c .before .before .before .before) .loop .inv .2))
+loop-again-4 c =
+    let t = c .before .before .before .before in
+    let y = answered t in (
+      tied-answered _ _ _ _ _ _ _ _ (held (top y)) (replied y .match2 .reply .change) (besideOf (bytes y) (replied y .before .event-in .result)) (t .before .ids-after .ensures) (c .before .before .touched3 .given .0 .0) (c .before .before .touched3 .given .0 .1 .1 .0) (c .before .before .touched3 .given .0 .1 .0) (c .addresses-of .ensures) (goes t (c .before .before .touched3 .given .1)),
+      top y .loop .inv .1,
+      query-sized (top y .loop .queries) (top y .loop .attempts) _ _ (top y .loop .inv .2),
+    )
 
 enum-known-touched-4 : tie.Need-enum-known-touched-4 Inv-loop μ-loop
 enum-known-touched-4 c = search needs
@@ -436,53 +548,207 @@ loop-less-5 c = less (c .before .before .before .before)
 loop-again-5 : tie.Need-loop-again-5 Inv-loop μ-loop
 loop-again-5 c = (rw (c .no-services .ensures, c .before .before .before .before .before .ids-after .ensures) (goes (c .before .before .before .before) (c .before .before .touched4 .given .1)), began (c .before .before .before .before) .loop .inv .1, query-sized (began (c .before .before .before .before) .loop .queries) (began (c .before .before .before .before) .loop .attempts) _ _ (began (c .before .before .before .before) .loop .inv .2))
 
-enum-told-4 : tie.Need-enum-told-4 Inv-loop μ-loop
-enum-told-4 c = search needs
+enum-known-touched-5 : tie.Need-enum-known-touched-5 Inv-loop μ-loop
+enum-known-touched-5 c = search needs
 
-change-in-requires : tie.Need-change-in-requires Inv-loop μ-loop
-change-in-requires c κs = search needs
+mul-q-5 : tie.Need-mul-q-5 Inv-loop μ-loop
+mul-q-5 c = omega (arith, inside (c .before .before .before) (c .before .touched5 .given .1))
 
-queries-fed-requires : tie.Need-queries-fed-requires Inv-loop μ-loop
-queries-fed-requires c κs = search needs
+element-set-from-q-4 : tie.Need-element-set-from-q-4 Inv-loop μ-loop
+element-set-from-q-4 c = inside (c .before .before .before) (c .before .touched5 .given .1)
 
-attempts-fed-requires : tie.Need-attempts-fed-requires Inv-loop μ-loop
-attempts-fed-requires c κs = search needs
+located-of-requires : tie.Need-located-of-requires Inv-loop μ-loop
+located-of-requires c κs = search needs
 
-offered-of-requires : tie.Need-offered-of-requires Inv-loop μ-loop
-offered-of-requires c κs = search needs
+placed-services-requires : tie.Need-placed-services-requires Inv-loop μ-loop
+placed-services-requires c κs = search needs
 
-retry-of-requires : tie.Need-retry-of-requires Inv-loop μ-loop
-retry-of-requires c κs = search needs
+is-bare-requires : tie.Need-is-bare-requires Inv-loop μ-loop
+is-bare-requires c κs = search needs
 
-services-fed-requires : tie.Need-services-fed-requires Inv-loop μ-loop
-services-fed-requires c κs = search needs
+is-still-requires : tie.Need-is-still-requires Inv-loop μ-loop
+is-still-requires c κs = search needs
 
-retries-fed-requires : tie.Need-retries-fed-requires Inv-loop μ-loop
-retries-fed-requires c κs = search needs
+first-name-requires : tie.Need-first-name-requires Inv-loop μ-loop
+first-name-requires c κs = search needs
 
-names-fed-requires : tie.Need-names-fed-requires Inv-loop μ-loop
-names-fed-requires c κs = search needs
+cast-base : tie.Need-cast-base Inv-loop μ-loop
+cast-base c = search needs
 
-echs-fed-requires : tie.Need-echs-fed-requires Inv-loop μ-loop
-echs-fed-requires c κs = search needs
+array-copy-out-b0 : tie.Need-array-copy-out-b0 Inv-loop μ-loop
+array-copy-out-b0 c = search needs
+
+array-copy-out-b1 : tie.Need-array-copy-out-b1 Inv-loop μ-loop
+array-copy-out-b1 c = search needs
+
+array-copy-out-b2 : tie.Need-array-copy-out-b2 Inv-loop μ-loop
+array-copy-out-b2 c = search needs
+
+array-copy-out-b3 : tie.Need-array-copy-out-b3 Inv-loop μ-loop
+array-copy-out-b3 c = search needs
+
+name-of-requires : tie.Need-name-of-requires Inv-loop μ-loop
+name-of-requires c κs = search needs
+
+name-of-requires-2 : tie.Need-name-of-requires-2 Inv-loop μ-loop
+name-of-requires-2 c κs = search needs
+
+name-of-requires-3 : tie.Need-name-of-requires-3 Inv-loop μ-loop
+name-of-requires-3 c κs = search needs
+
+name-of-requires-4 : tie.Need-name-of-requires-4 Inv-loop μ-loop
+name-of-requires-4 c κs = search needs
+
+mul-n0 : tie.Need-mul-n0 Inv-loop μ-loop
+mul-n0 c = omega (arith, named-round c)
+
+element-set-from-n0 : tie.Need-element-set-from-n0 Inv-loop μ-loop
+element-set-from-n0 c = omega (arith, named-round c)
+
+add-n1 : tie.Need-add-n1 Inv-loop μ-loop
+add-n1 c = omega (arith, named-round c)
+
+mul-n1 : tie.Need-mul-n1 Inv-loop μ-loop
+mul-n1 c = omega (arith, named-round c)
+
+element-set-from-n1 : tie.Need-element-set-from-n1 Inv-loop μ-loop
+element-set-from-n1 c = omega (arith, named-round c)
+
+add-n2 : tie.Need-add-n2 Inv-loop μ-loop
+add-n2 c = omega (arith, named-round c)
+
+mul-n2 : tie.Need-mul-n2 Inv-loop μ-loop
+mul-n2 c = omega (arith, named-round c)
+
+element-set-from-n2 : tie.Need-element-set-from-n2 Inv-loop μ-loop
+element-set-from-n2 c = omega (arith, named-round c)
+
+add-n3 : tie.Need-add-n3 Inv-loop μ-loop
+add-n3 c = omega (arith, named-round c)
+
+mul-n3 : tie.Need-mul-n3 Inv-loop μ-loop
+mul-n3 c = omega (arith, named-round c)
+
+element-set-from-n3 : tie.Need-element-set-from-n3 Inv-loop μ-loop
+element-set-from-n3 c = omega (arith, named-round c)
+
+first-ech-requires : tie.Need-first-ech-requires Inv-loop μ-loop
+first-ech-requires c κs = search needs
+
+cast-g : tie.Need-cast-g Inv-loop μ-loop
+cast-g c = search needs
+
+array-copy-out-s0 : tie.Need-array-copy-out-s0 Inv-loop μ-loop
+array-copy-out-s0 c = search needs
+
+array-copy-out-s1 : tie.Need-array-copy-out-s1 Inv-loop μ-loop
+array-copy-out-s1 c = search needs
+
+array-copy-out-s2 : tie.Need-array-copy-out-s2 Inv-loop μ-loop
+array-copy-out-s2 c = search needs
+
+array-copy-out-s3 : tie.Need-array-copy-out-s3 Inv-loop μ-loop
+array-copy-out-s3 c = search needs
+
+ech-of-requires : tie.Need-ech-of-requires Inv-loop μ-loop
+ech-of-requires c κs = search needs
+
+ech-of-requires-2 : tie.Need-ech-of-requires-2 Inv-loop μ-loop
+ech-of-requires-2 c κs = search needs
+
+ech-of-requires-3 : tie.Need-ech-of-requires-3 Inv-loop μ-loop
+ech-of-requires-3 c κs = search needs
+
+ech-of-requires-4 : tie.Need-ech-of-requires-4 Inv-loop μ-loop
+ech-of-requires-4 c κs = search needs
+
+mul-e0 : tie.Need-mul-e0 Inv-loop μ-loop
+mul-e0 c = omega (arith, sealed-round c)
+
+element-set-from-e0 : tie.Need-element-set-from-e0 Inv-loop μ-loop
+element-set-from-e0 c = omega (arith, sealed-round c)
+
+add-e1 : tie.Need-add-e1 Inv-loop μ-loop
+add-e1 c = omega (arith, sealed-round c)
+
+mul-e1 : tie.Need-mul-e1 Inv-loop μ-loop
+mul-e1 c = omega (arith, sealed-round c)
+
+element-set-from-e1 : tie.Need-element-set-from-e1 Inv-loop μ-loop
+element-set-from-e1 c = omega (arith, sealed-round c)
+
+add-e2 : tie.Need-add-e2 Inv-loop μ-loop
+add-e2 c = omega (arith, sealed-round c)
+
+mul-e2 : tie.Need-mul-e2 Inv-loop μ-loop
+mul-e2 c = omega (arith, sealed-round c)
+
+element-set-from-e2 : tie.Need-element-set-from-e2 Inv-loop μ-loop
+element-set-from-e2 c = omega (arith, sealed-round c)
+
+add-e3 : tie.Need-add-e3 Inv-loop μ-loop
+add-e3 c = omega (arith, sealed-round c)
+
+mul-e3 : tie.Need-mul-e3 Inv-loop μ-loop
+mul-e3 c = omega (arith, sealed-round c)
+
+element-set-from-e3 : tie.Need-element-set-from-e3 Inv-loop μ-loop
+element-set-from-e3 c = omega (arith, sealed-round c)
 
 alike-of-requires-2 : tie.Need-alike-of-requires-2 Inv-loop μ-loop
 alike-of-requires-2 c κs = search needs
 
 loop-less-6 : tie.Need-loop-less-6 Inv-loop μ-loop
-loop-less-6 c = less (c .before .before .before .before .before .before .before .before .before .before .before .before .before .before .before)
+loop-less-6 c = less (from-change (c .before .before))
 
 loop-again-6 : tie.Need-loop-again-6 Inv-loop μ-loop
-loop-again-6 c =
-    let s = c .before .before .before .before in
-    let o = s .before .before .before .before .before in
-    let w = o .before .before .before in
-    let t = w .before .before .before in
+loop-again-6 c = let k = c .before .before in (offers-tied k, c .alike-of2 .ensures, offers-sized k)
+
+loop-less-7 : tie.Need-loop-less-7 Inv-loop μ-loop
+loop-less-7 c = less (from-change (c .before))
+
+loop-again-7 : tie.Need-loop-again-7 Inv-loop μ-loop
+loop-again-7 c = let k = c .before in (offers-tied k, offers-still k (not-false (testing k .is-still .result) (c .if3 .left)), offers-sized k)
+
+enum-known-touched-6 : tie.Need-enum-known-touched-6 Inv-loop μ-loop
+enum-known-touched-6 c = search needs
+
+mul-a-3 : tie.Need-mul-a-3 Inv-loop μ-loop
+mul-a-3 c = omega (arith, inside (c .before .before .before) (c .before .touched6 .given .1))
+
+element-set-from-a-2 : tie.Need-element-set-from-a-2 Inv-loop μ-loop
+element-set-from-a-2 c = inside (c .before .before .before) (c .before .touched6 .given .1)
+
+put-retry-requires : tie.Need-put-retry-requires Inv-loop μ-loop
+put-retry-requires c κs = search needs
+
+retry-of-requires : tie.Need-retry-of-requires Inv-loop μ-loop
+retry-of-requires c κs = search needs
+
+add-x : tie.Need-add-x Inv-loop μ-loop
+add-x c = omega (arith, inside (c .before .before .before .before .before) (c .before .before .before .touched6 .given .1))
+
+mul-x : tie.Need-mul-x Inv-loop μ-loop
+mul-x c = omega (arith, inside (c .before .before .before .before .before) (c .before .before .before .touched6 .given .1))
+
+element-set-from-x : tie.Need-element-set-from-x Inv-loop μ-loop
+element-set-from-x c = omega (arith, inside (c .before .before .before .before .before) (c .before .before .before .touched6 .given .1))
+
+alike-of-requires-3 : tie.Need-alike-of-requires-3 Inv-loop μ-loop
+alike-of-requires-3 c κs = search needs
+
+loop-less-8 : tie.Need-loop-less-8 Inv-loop μ-loop
+loop-less-8 c = less (c .before .before .before .before .before .before)
+
+loop-again-8 : tie.Need-loop-again-8 Inv-loop μ-loop
+unfolding besideOf
+loop-again-8 c =
+    let k = c .before in
+    let t = k .before .before .before .before .before in
     let y = answered t in (
-      tied-brought _ _ _ _ _ _ _ _ (held (top y)) (replied y .match2 .reply .change) (bytes y) (replied y .before .event-in .result) (w .change-in .ensures) (t .before .ids-after .ensures) (o .before .before .queries-fed .ensures) (o .before .attempts-fed .ensures) (o .offered-of .ensures) (s .before .retry-of .ensures) (s .services-fed .ensures) (c .before .before .before .retries-fed .ensures) (c .before .before .names-fed .ensures) (c .before .echs-fed .ensures)
-          (goes t (w .before .enum-told4 .given .1)),
-      c .alike-of2 .ensures,
-      fed-sized (top y .loop .queries) (top y .loop .attempts) (w .change-in .result) (o .before .before .queries-fed .ensures) (o .before .attempts-fed .ensures) (top y .loop .inv .2),
+      tied-retried _ _ _ _ _ _ _ _ (held (top y)) (replied y .match2 .reply .change) (besideOf (bytes y) (replied y .before .event-in .result)) (t .before .ids-after .ensures) (k .before .before .before .touched6 .given .0 .0) (k .before .before .before .touched6 .given .0 .1 .1 .0) (k .before .before .before .touched6 .given .0 .1 .1 .1 .0) (k .before .before .before .touched6 .given .0 .1 .0) (k .before .put-retry .ensures) (k .retry-of .ensures) (goes t (k .before .before .before .touched6 .given .1)),
+      c .alike-of3 .ensures,
+      attempt-sized (top y .loop .queries) (top y .loop .attempts) _ _ (top y .loop .inv .2),
     )
 
 same-length-3 : tie.Need-same-length-3 Inv-loop μ-loop
@@ -521,7 +787,10 @@ run-spec =
     is-call-requires
     survey-of-requires
     looks-requires
-    found-of-requires
+    retry-next-requires
+    looks-on-requires
+    endpoint-next-requires
+    first-found-requires
     wish-of-requires
     wish-query-requires
     wish-attempt-requires
@@ -576,18 +845,70 @@ run-spec =
     no-services-requires
     loop-less-5
     loop-again-5
-    enum-told-4
-    change-in-requires
-    queries-fed-requires
-    attempts-fed-requires
-    offered-of-requires
-    retry-of-requires
-    services-fed-requires
-    retries-fed-requires
-    names-fed-requires
-    echs-fed-requires
+    enum-known-touched-5
+    mul-q-5
+    element-set-from-q-4
+    located-of-requires
+    placed-services-requires
+    is-bare-requires
+    is-still-requires
+    first-name-requires
+    cast-base
+    array-copy-out-b0
+    array-copy-out-b1
+    array-copy-out-b2
+    array-copy-out-b3
+    name-of-requires
+    name-of-requires-2
+    name-of-requires-3
+    name-of-requires-4
+    mul-n0
+    element-set-from-n0
+    add-n1
+    mul-n1
+    element-set-from-n1
+    add-n2
+    mul-n2
+    element-set-from-n2
+    add-n3
+    mul-n3
+    element-set-from-n3
+    first-ech-requires
+    cast-g
+    array-copy-out-s0
+    array-copy-out-s1
+    array-copy-out-s2
+    array-copy-out-s3
+    ech-of-requires
+    ech-of-requires-2
+    ech-of-requires-3
+    ech-of-requires-4
+    mul-e0
+    element-set-from-e0
+    add-e1
+    mul-e1
+    element-set-from-e1
+    add-e2
+    mul-e2
+    element-set-from-e2
+    add-e3
+    mul-e3
+    element-set-from-e3
     alike-of-requires-2
     loop-less-6
     loop-again-6
+    loop-less-7
+    loop-again-7
+    enum-known-touched-6
+    mul-a-3
+    element-set-from-a-2
+    put-retry-requires
+    retry-of-requires
+    add-x
+    mul-x
+    element-set-from-x
+    alike-of-requires-3
+    loop-less-8
+    loop-again-8
     same-length-3
     returns-3)
