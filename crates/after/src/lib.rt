@@ -1,3 +1,4 @@
+#![tactic(auto)]
 // Each part of the machine after a change. A change that isn't of the part leaves it.
 ghost use Rattle.std.specs.Prelude.{◌<◌, ◌≡◌};
 ghost use Rattle.pacing.specs.Ids.{next_id};
@@ -13,12 +14,12 @@ use state::attempts::{Attempt, Attempts, Retries};
 use state::changes::{CallChange, InputChange, Round, first_ech, first_name};
 
 // What an HTTPS answer brings beside its services: for each its name, and its ECH bytes where it has them.
-#[derive(Drop)]
+#[derive(Clone, Copy)]
 pub struct TargetNames {
     pub list: [Name; 4],
 }
 
-#[derive(Drop)]
+#[derive(Clone, Copy)]
 pub struct TargetEchs {
     pub list: [Ech; 4],
 }

@@ -97,7 +97,7 @@ fn bit(b: bool) -> u64
 }
 
 // The eight bytes of a number, the highest first.
-#[derive(Drop)]
+#[derive(Clone, Copy)]
 struct Eight {
     bytes: [u8; 8],
 }
@@ -127,7 +127,7 @@ fn eight_bytes(x: u64) -> Eight
 }
 
 // The sixteen bytes of an IPv6 address.
-#[derive(Drop)]
+#[derive(Clone, Copy)]
 struct Sixteen {
     bytes: [u8; 16],
 }

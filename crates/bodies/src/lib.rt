@@ -1,3 +1,4 @@
+#![tactic(auto)]
 // Input bodies in bytes, and the call (document 01, "Numbers and bodies").
 // A first pass finds the first fault, or says where things stand; a second copies what stands there.
 ghost use Rattle.std.specs.Prelude.{◌≡◌};
@@ -19,7 +20,7 @@ use records::names::{Ech, no_ech};
 use records::queries::{Addresses, Kind, no_addresses};
 
 // What a body says, and where its items and bytes stand. An answer has its type, the query's id and whether it is stale.
-#[derive(Drop)]
+#[derive(Clone, Copy)]
 pub enum Event {
     Call,
     Fails(Kind, u64, bool),
@@ -29,7 +30,7 @@ pub enum Event {
     EchRetry(u64, Span),
 }
 
-#[derive(Drop)]
+#[derive(Clone, Copy)]
 pub enum EventRead {
     // The event, and the place after it.
     Event(Event, usize),
@@ -38,7 +39,7 @@ pub enum EventRead {
 }
 
 // The number of a body's first fault and the place of its field; 0 and the body's end where it has none.
-#[derive(Drop)]
+#[derive(Clone, Copy)]
 pub struct Fault {
     pub number: u8,
     pub place: usize,

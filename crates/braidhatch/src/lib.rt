@@ -1,3 +1,4 @@
+#![tactic(auto)]
 // The shell's C entries (document 01, part 8), over numbers and byte slices alone. include/braidhatch.h says in C what stands here.
 ghost use Rattle.std.specs.Prelude.{◌≡◌, ◌+◌, ◌≤◌, length};
 ghost use Rattle.std.proofs.lemmas.List.Edits.{sets};

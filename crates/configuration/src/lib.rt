@@ -1,3 +1,4 @@
+#![tactic(auto)]
 // The configuration body (document 01, "Numbers and bodies"). A first pass finds the first fault, or says where things stand; a second
 // copies the alternative services and the names from there.
 ghost use Rattle.std.specs.Prelude.{◌≡◌};
@@ -24,7 +25,7 @@ use records::rules::{
 };
 
 // A host, with its name where it stands; an alternative service may have none.
-#[derive(Drop)]
+#[derive(Clone, Copy)]
 pub enum HostSpan {
     Absent,
     Named(Span),
@@ -32,28 +33,28 @@ pub enum HostSpan {
     V6(u64, u64),
 }
 
-#[derive(Drop)]
+#[derive(Clone, Copy)]
 pub enum HostRead {
     Host(HostSpan, usize),
     Refused(Refusal, usize),
 }
 
 // An alternative service, with its name where it stands.
-#[derive(Drop)]
+#[derive(Clone, Copy)]
 pub struct AltSpan {
     pub host: HostSpan,
     pub port: Port,
     pub version: Version,
 }
 
-#[derive(Drop)]
+#[derive(Clone, Copy)]
 pub enum AltRead {
     Alt(AltSpan, usize),
     Refused(Refusal, usize),
 }
 
 // What comes before the alternative services.
-#[derive(Drop)]
+#[derive(Clone, Copy)]
 pub struct Front {
     pub port: u16,
     pub host: HostSpan,
@@ -61,47 +62,47 @@ pub struct Front {
     pub preference: Preference,
 }
 
-#[derive(Drop)]
+#[derive(Clone, Copy)]
 pub enum FrontRead {
     Front(Front, usize),
     Refused(Refusal, usize),
 }
 
-#[derive(Drop)]
+#[derive(Clone, Copy)]
 pub enum MultiplierRead {
     Multiplier(u32, usize),
     Refused(Refusal, usize),
 }
 
-#[derive(Drop)]
+#[derive(Clone, Copy)]
 pub struct Pace {
     pub resolution: u64,
     pub delay: u64,
     pub multiplier: u32,
 }
 
-#[derive(Drop)]
+#[derive(Clone, Copy)]
 pub enum PaceRead {
     Pace(Pace, usize),
     Refused(Refusal, usize),
 }
 
 // What comes after them.
-#[derive(Drop)]
+#[derive(Clone, Copy)]
 pub struct Back {
     pub timing: Timing,
     pub ech: bool,
     pub mode: Mode,
 }
 
-#[derive(Drop)]
+#[derive(Clone, Copy)]
 pub enum BackRead {
     Back(Back, usize),
     Refused(Refusal, usize),
 }
 
 // A sound configuration: its rules, and where the names and the alternative services stand.
-#[derive(Drop)]
+#[derive(Clone, Copy)]
 pub struct Setup {
     pub rules: Rules,
     pub timing: Timing,
@@ -109,26 +110,26 @@ pub struct Setup {
     pub alts: Items,
 }
 
-#[derive(Drop)]
+#[derive(Clone, Copy)]
 pub enum SetupRead {
     Setup(Setup, usize),
     Refused(Refusal, usize),
 }
 
 // The names of the alternative services, in their order.
-#[derive(Drop)]
+#[derive(Clone, Copy)]
 pub struct AltNames {
     pub list: [Name; 4],
 }
 
-#[derive(Drop)]
+#[derive(Clone, Copy)]
 pub struct Alternatives {
     pub alts: Alts,
     pub names: AltNames,
 }
 
 // What a configuration holds beside its rules.
-#[derive(Drop)]
+#[derive(Clone, Copy)]
 pub struct Configured {
     pub alts: Alts,
     pub names: Names,

@@ -1,3 +1,4 @@
+#![tactic(auto)]
 // Interleaving (document 01, part 3), over positions: the caller has the group of each of its endpoints, and gets the order to attempt them in.
 ghost use Rattle.std.specs.Prelude.{◌≡◌, true, cond, ◌++◌, ◌+◌, ◌<◌, ◌≤◌, length, take, replicate};
 ghost use Rattle.deal.specs.Interleaving.{order};
@@ -7,7 +8,7 @@ ghost use Rattle.deal.specs.Queues.{Held, Active, members};
 // The longest listing: four services of 48 endpoints, 64 of alternative services and 16 of the origin.
 const LONGEST: usize = 272;
 
-#[derive(Drop)]
+#[derive(Clone, Copy)]
 pub enum Dealing {
     Dealt,
     // more than 272 groups

@@ -1,3 +1,4 @@
+#![tactic(auto)]
 // An input whose body is sound (document 01, part 7): which refusal of 7 to 12 it gets, or what it changes.
 ghost use Rattle.std.specs.Prelude.{◌≡◌};
 ghost use Rattle.input.specs.Input.{in_flight, asked_of, tried_of, with_answer, is_failed, stored, first_answer, fresh_answer, answer_verdict, retry_verdict, outcome_verdict, end_verdict, result_verdict, verdict_of};
@@ -9,7 +10,7 @@ use state::attempts::{Attempt, Attempts, State, with_state};
 use state::changes::{InputChange, Round};
 
 // An input without the addresses, services and bytes that come beside it. An answer has its type, the query's id and whether it is stale.
-#[derive(Drop)]
+#[derive(Clone, Copy)]
 pub enum Input {
     Fails(Kind, u64, bool),
     // with how many addresses; an HTTPS answer has 0 here
@@ -19,28 +20,28 @@ pub enum Input {
     EchRetry(u64),
 }
 
-#[derive(Drop)]
+#[derive(Clone, Copy)]
 pub enum Verdict {
     Accepted(InputChange),
     Refused(Refusal),
 }
 
 // Whose id an answer has.
-#[derive(Drop)]
+#[derive(Clone, Copy)]
 pub enum Asked {
     Nobody,
     Own(usize),
     Refresh(usize),
 }
 
-#[derive(Drop)]
+#[derive(Clone, Copy)]
 pub enum Tried {
     Nobody,
     At(usize),
 }
 
 // How an attempt ended.
-#[derive(Drop)]
+#[derive(Clone, Copy)]
 pub enum Outcome {
     Success,
     Failure,

@@ -7,7 +7,7 @@ use records::names::{SameNames, same_class};
 use records::queries::{Answer, Kind, Queries, is_answered, kind_number};
 
 // A query record and how many addresses it holds.
-#[derive(Drop)]
+#[derive(Clone, Copy)]
 pub struct Holding {
     pub query: u8,
     pub count: u8,

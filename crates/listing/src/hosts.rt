@@ -14,14 +14,14 @@ use records::rules::{
 use records::services::Service;
 
 // The first so many targets of a source.
-#[derive(Drop)]
+#[derive(Clone, Copy)]
 pub struct Targets {
     pub source: Source,
     pub count: u8,
 }
 
 // What a host has: IPv6 and IPv4 addresses, or a name and nothing.
-#[derive(Drop)]
+#[derive(Clone, Copy)]
 pub struct HostTargets {
     pub first: Targets,
     pub second: Targets,

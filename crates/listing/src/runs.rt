@@ -22,7 +22,7 @@ use records::rules::{Alts, Port, Rules, prefers_six};
 use records::services::Service;
 
 // Targets with all else that their endpoints have.
-#[derive(Drop)]
+#[derive(Clone, Copy)]
 pub struct Run {
     pub source: Source,
     pub port: u16,
@@ -32,20 +32,20 @@ pub struct Run {
 }
 
 // What a host has, at one rank.
-#[derive(Drop)]
+#[derive(Clone, Copy)]
 pub struct HostRuns {
     pub first: Run,
     pub second: Run,
 }
 
 // The runs of a tier; unused ones are empty.
-#[derive(Drop)]
+#[derive(Clone, Copy)]
 pub struct Runs {
     pub list: [Run; 10],
 }
 
 // The references of a tier in record order, and the group of each.
-#[derive(Drop)]
+#[derive(Clone, Copy)]
 pub struct Undealt {
     pub count: usize,
     pub list: [Item; 80],
@@ -53,7 +53,7 @@ pub struct Undealt {
 }
 
 // The positions of a tier in dealt order.
-#[derive(Drop)]
+#[derive(Clone, Copy)]
 pub struct DealtOrder {
     pub list: [u16; 80],
 }

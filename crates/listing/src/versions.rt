@@ -7,7 +7,7 @@ use records::endpoints::Rank;
 use records::rules::{Version, Versions};
 
 // The combinations of a set of versions: at most two.
-#[derive(Drop)]
+#[derive(Clone, Copy)]
 pub struct Ranks {
     pub count: usize,
     pub first: Rank,

@@ -1,3 +1,4 @@
+#![tactic(auto)]
 // The live machine: a shell makes it from a configuration, holds it, and lends it to the two calls here (document 01, part 7 and "Forms").
 ghost use Rattle.std.specs.Prelude.{◌≡◌, length};
 ghost use Rattle.numbers.specs.Put.{put_bytes};
@@ -17,14 +18,14 @@ use state::{Machine, made};
 pub mod lent;
 
 // What becomes of a body: 0 or a refusal's number, and the machine after it.
-#[derive(Drop)]
+#[derive(Clone, Copy)]
 pub struct Fed {
     pub number: u8,
     pub machine: Machine,
 }
 
 // How much of an answer was written, and the machine after the call.
-#[derive(Drop)]
+#[derive(Clone, Copy)]
 pub struct Called {
     pub wrote: Wrote,
     pub machine: Machine,

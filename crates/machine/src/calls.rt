@@ -28,7 +28,7 @@ use upcoming::classes::alike_of;
 
 // What comes beside an input: the addresses of an answer of type A or AAAA; the services, names and ECH bytes of an HTTPS answer; the bytes
 // of an ECH retry. Zero where the input has none.
-#[derive(Drop)]
+#[derive(Clone, Copy)]
 pub struct Beside {
     pub addresses: Addresses,
     pub services: Services,
@@ -38,27 +38,27 @@ pub struct Beside {
 }
 
 // What a call is answered, and the machine after it.
-#[derive(Drop)]
+#[derive(Clone, Copy)]
 pub struct OutputStep {
     pub output: Output,
     pub machine: Machine,
 }
 
 // Whether an input was accepted.
-#[derive(Drop)]
+#[derive(Clone, Copy)]
 pub enum Taken {
     Accepted,
     Refused(Refusal),
 }
 
-#[derive(Drop)]
+#[derive(Clone, Copy)]
 pub struct InputStep {
     pub taken: Taken,
     pub machine: Machine,
 }
 
 // What a call sees of attempts and records, and what it looks for.
-#[derive(Drop)]
+#[derive(Clone, Copy)]
 pub struct Survey {
     pub tries: Tries,
     pub asks: Asks,

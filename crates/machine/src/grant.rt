@@ -10,14 +10,14 @@ use state::attempts::{Attempt, State, new_attempt, with_state};
 use state::changes::CallChange;
 
 // What there is no more room for.
-#[derive(Drop)]
+#[derive(Clone, Copy)]
 pub enum Table {
     Queries,
     Attempts,
 }
 
 // What a call is answered; names and ECH bytes by place.
-#[derive(Drop)]
+#[derive(Clone, Copy)]
 pub enum Output {
     Waiting,
     // id, type, allow_stale, name
@@ -32,7 +32,7 @@ pub enum Output {
 }
 
 // An answer, and what it changes.
-#[derive(Drop)]
+#[derive(Clone, Copy)]
 pub struct Turn {
     pub output: Output,
     pub change: CallChange,

@@ -20,14 +20,14 @@ use upcoming::next::{Next, next_endpoint, next_retry};
 use upcoming::wanted::{Wanted, next_query, origin_wanted};
 
 // `FailureReason`
-#[derive(Drop)]
+#[derive(Clone, Copy)]
 pub enum Reason {
     Dns,
     Connection,
 }
 
 // Records and attempts by place, names by place.
-#[derive(Drop)]
+#[derive(Clone, Copy)]
 pub enum Wish {
     Cancel(usize),
     Succeeded,
@@ -105,7 +105,7 @@ fn rest_wish(timing: Timing, tries: Tries, asks: Asks, count: usize, now: u64) -
 }
 
 // What is looked for among the records: retries, the next endpoint, queries beside the origin's.
-#[derive(Drop)]
+#[derive(Clone, Copy)]
 pub struct Look {
     pub retry: bool,
     pub next: bool,
@@ -113,7 +113,7 @@ pub struct Look {
 }
 
 // What was found, in this order.
-#[derive(Drop)]
+#[derive(Clone, Copy)]
 pub enum Found {
     Nothing,
     Retry(Endpoint),

@@ -17,13 +17,13 @@ const LONGEST_NAME: u64 = 253;
 const LONGEST_ORIGIN: u64 = 239;
 
 // Some bytes of the input: where they start and how many they are.
-#[derive(Drop)]
+#[derive(Clone, Copy)]
 pub struct Span {
     pub start: usize,
     pub len: usize,
 }
 
-#[derive(Drop)]
+#[derive(Clone, Copy)]
 pub enum SpanRead {
     // The bytes, and the place after the last.
     Bytes(Span, usize),

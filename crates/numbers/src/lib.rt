@@ -1,3 +1,4 @@
+#![tactic(auto)]
 // Numbers, names and refusals: what every field of a tape is made of.
 pub mod field;
 pub mod name;

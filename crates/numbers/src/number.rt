@@ -7,7 +7,7 @@ ghost use Rattle.numbers.specs.Shown.{read_shown, wrote_shown};
 use super::put::{Wrote, has_room};
 use super::refusal::Refusal;
 
-#[derive(Drop)]
+#[derive(Clone, Copy)]
 pub enum Read {
     // The value, and the place after its last byte.
     Number(u64, usize),

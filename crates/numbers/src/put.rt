@@ -5,7 +5,7 @@ ghost use Rattle.numbers.specs.Shown.{wrote_shown};
 
 use super::refusal::Refusal;
 
-#[derive(Drop)]
+#[derive(Clone, Copy)]
 pub enum Wrote {
     // The place after the last byte.
     Next(usize),

@@ -2,7 +2,7 @@
 ghost use Rattle.std.specs.Prelude.{◌≡◌};
 ghost use Rattle.numbers.specs.Refusals.{refusal_number};
 
-#[derive(Drop)]
+#[derive(Clone, Copy)]
 pub enum Refusal {
     Cut,
     BadNumber,

@@ -1,3 +1,4 @@
+#![tactic(auto)]
 // Services in an HTTPS answer.
 ghost use Rattle.std.specs.Prelude.{◌≡◌};
 ghost use Rattle.parts.specs.Items.{items, past, counted};
@@ -17,71 +18,71 @@ use records::rules::{Port, Versions};
 use records::services::{Service, Services, no_services};
 
 // ECH bytes in a body, or none.
-#[derive(Drop)]
+#[derive(Clone, Copy)]
 pub enum EchSpan {
     Without,
     Sealed(Span),
 }
 
 // A service, with its bytes and hints where they stand.
-#[derive(Drop)]
+#[derive(Clone, Copy)]
 pub struct Head {
     pub priority: u16,
     pub name: Span,
     pub versions: Versions,
 }
 
-#[derive(Drop)]
+#[derive(Clone, Copy)]
 pub struct Way {
     pub port: Port,
     pub ech: EchSpan,
 }
 
-#[derive(Drop)]
+#[derive(Clone, Copy)]
 pub struct Hints {
     pub four: Items,
     pub six: Items,
 }
 
-#[derive(Drop)]
+#[derive(Clone, Copy)]
 pub struct Offer {
     pub head: Head,
     pub way: Way,
     pub hints: Hints,
 }
 
-#[derive(Drop)]
+#[derive(Clone, Copy)]
 pub enum HeadRead {
     Head(Head, usize),
     Refused(Refusal, usize),
 }
 
-#[derive(Drop)]
+#[derive(Clone, Copy)]
 pub enum EchRead {
     Ech(EchSpan, usize),
     Refused(Refusal, usize),
 }
 
-#[derive(Drop)]
+#[derive(Clone, Copy)]
 pub enum WayRead {
     Way(Way, usize),
     Refused(Refusal, usize),
 }
 
-#[derive(Drop)]
+#[derive(Clone, Copy)]
 pub enum HintsRead {
     Hints(Hints, usize),
     Refused(Refusal, usize),
 }
 
-#[derive(Drop)]
+#[derive(Clone, Copy)]
 pub enum OfferRead {
     Offer(Offer, usize),
     Refused(Refusal, usize),
 }
 
 // The services of an HTTPS answer, and where the name and the ECH bytes of each stand: an empty span where there are none.
-#[derive(Drop)]
+#[derive(Clone, Copy)]
 pub struct Located {
     pub services: Services,
     pub names: [Span; 4],
@@ -89,7 +90,7 @@ pub struct Located {
 }
 
 // What an HTTPS answer has: its services, with their names and ECH bytes beside.
-#[derive(Drop)]
+#[derive(Clone, Copy)]
 pub struct Offered {
     pub services: Services,
     pub names: TargetNames,

@@ -2,13 +2,13 @@
 ghost use Rattle.std.specs.Prelude.{◌≡◌};
 ghost use Rattle.pacing.specs.Ids.{first_id, next_id};
 
-#[derive(Drop)]
+#[derive(Clone, Copy)]
 pub struct IdGenerator {
     pub next: u64,
 }
 
 // An id, and the generator after it.
-#[derive(Drop)]
+#[derive(Clone, Copy)]
 pub struct Issued {
     pub id: u64,
     pub ids: IdGenerator,

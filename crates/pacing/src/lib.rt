@@ -1,3 +1,4 @@
+#![tactic(auto)]
 // Ids, and the pace of attempts.
 pub mod delay;
 pub mod id;

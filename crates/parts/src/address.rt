@@ -11,14 +11,14 @@ use records::queries::{Addr, Addresses, no_addresses};
 use records::services::{Hint, no_hint};
 
 // How an address is written: 4 bytes, 16 bytes, or 16 bytes and a scope.
-#[derive(Drop)]
+#[derive(Clone, Copy)]
 pub enum Form {
     Four,
     Six,
     Scoped,
 }
 
-#[derive(Drop)]
+#[derive(Clone, Copy)]
 pub enum AddrRead {
     // The address, and the place after it.
     Address(Addr, usize),
@@ -27,33 +27,33 @@ pub enum AddrRead {
 }
 
 // The place after some items, or what is wrong with one.
-#[derive(Drop)]
+#[derive(Clone, Copy)]
 pub enum Passed {
     Next(usize),
     Refused(Refusal, usize),
 }
 
 // Items in a row: how many, and where the first stands.
-#[derive(Drop)]
+#[derive(Clone, Copy)]
 pub struct Items {
     pub count: usize,
     pub first: usize,
 }
 
-#[derive(Drop)]
+#[derive(Clone, Copy)]
 pub enum ItemsRead {
     Items(Items, usize),
     Refused(Refusal, usize),
 }
 
 // Hints of a service.
-#[derive(Drop)]
+#[derive(Clone, Copy)]
 pub struct Fours {
     pub count: usize,
     pub list: [u32; 4],
 }
 
-#[derive(Drop)]
+#[derive(Clone, Copy)]
 pub struct Sixes {
     pub count: usize,
     pub list: [Hint; 4],

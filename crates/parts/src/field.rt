@@ -8,13 +8,13 @@ use numbers::number::Read;
 use numbers::refusal::Refusal;
 use records::rules::{Port, Versions};
 
-#[derive(Drop)]
+#[derive(Clone, Copy)]
 pub enum VersionsRead {
     Versions(Versions, usize),
     Refused(Refusal, usize),
 }
 
-#[derive(Drop)]
+#[derive(Clone, Copy)]
 pub enum PortRead {
     Port(Port, usize),
     Refused(Refusal, usize),

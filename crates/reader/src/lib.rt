@@ -1,3 +1,4 @@
+#![tactic(auto)]
 // Answers read back (document 01, what a tape is answered): what each says, and where its bytes stand.
 ghost use Rattle.std.specs.Prelude.{◌≡◌};
 ghost use Rattle.reader.specs.Reading.{kind_of, rank_of, reason_of, table_of, sized_at, query_at, four_at, six_at, host_at, target_at, ech_at, port_at, endpoint_at, attempt_at, most_of, rest_at, kind_at, answer_at};
@@ -13,7 +14,7 @@ use records::endpoints::Rank;
 use records::queries::Kind;
 
 // Where a target's bytes stand: the 4 or 16 of an address, with its scope, or those of a host.
-#[derive(Drop)]
+#[derive(Clone, Copy)]
 pub enum TargetSpan {
     V4(Span),
     V6(Span, u32),
@@ -21,13 +22,13 @@ pub enum TargetSpan {
 }
 
 // Where ECH bytes stand, or that there are none.
-#[derive(Drop)]
+#[derive(Clone, Copy)]
 pub enum EchSpan {
     Without,
     Sealed(Span),
 }
 
-#[derive(Drop)]
+#[derive(Clone, Copy)]
 pub struct EndpointSpan {
     pub target: TargetSpan,
     pub port: u16,
@@ -36,7 +37,7 @@ pub struct EndpointSpan {
 }
 
 // An answer: the cases of `Output`, with bytes where they stand, and the answer to an input.
-#[derive(Drop)]
+#[derive(Clone, Copy)]
 pub enum Answer {
     Waiting,
     // id, type, allow_stale, name
@@ -52,25 +53,25 @@ pub enum Answer {
     Taken(u64),
 }
 
-#[derive(Drop)]
+#[derive(Clone, Copy)]
 pub enum TargetRead {
     Target(TargetSpan, usize),
     Refused(Refusal),
 }
 
-#[derive(Drop)]
+#[derive(Clone, Copy)]
 pub enum EchRead {
     Ech(EchSpan, usize),
     Refused(Refusal),
 }
 
-#[derive(Drop)]
+#[derive(Clone, Copy)]
 pub enum EndpointRead {
     Endpoint(EndpointSpan, usize),
     Refused(Refusal),
 }
 
-#[derive(Drop)]
+#[derive(Clone, Copy)]
 pub enum AnswerRead {
     // The answer, and the place after its last byte.
     Answer(Answer, usize),

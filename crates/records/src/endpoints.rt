@@ -6,7 +6,7 @@ ghost use Rattle.records.specs.Endpoints.{no_endpoint, same_numbers, same_sealed
 use super::names::{EchPlace, Echs, Names, ech_at, same_ech, same_host};
 
 // `ConnectionAttemptHttpVersions`
-#[derive(Drop)]
+#[derive(Clone, Copy)]
 pub enum Rank {
     H3,
     H2OrH1,
@@ -15,14 +15,14 @@ pub enum Rank {
 }
 
 // What an endpoint connects to: an IPv4 address, an IPv6 address with its scope, or a name by place.
-#[derive(Drop)]
+#[derive(Clone, Copy)]
 pub enum Target {
     V4(u32),
     V6(u64, u64, u32),
     Named(u8),
 }
 
-#[derive(Drop)]
+#[derive(Clone, Copy)]
 pub struct Endpoint {
     pub target: Target,
     pub port: u16,

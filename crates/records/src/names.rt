@@ -5,40 +5,40 @@ ghost use Rattle.records.specs.Names.{no_name, no_ech, no_names, no_echs, name_b
 ghost use Rattle.records.specs.Classes.{same_names, same_class, class_at};
 
 // 1 to 253 bytes, with one trailing dot or none; empty where there is none.
-#[derive(Drop)]
+#[derive(Clone, Copy)]
 pub struct Name {
     pub len: usize,
     pub bytes: [u8; 253],
 }
 
 // An ECH configuration of at most 512 bytes. Present with length 0 is not the same as none, so presence is told by `EchPlace`.
-#[derive(Drop)]
+#[derive(Clone, Copy)]
 pub struct Ech {
     pub len: usize,
     pub bytes: [u8; 512],
 }
 
 // Places: 0 origin, 1 to 4 alternative services, 5 to 8 targets of the first HTTPS answer, 9 to 12 of its refresh, 13 the HTTPS name with its prefix.
-#[derive(Drop)]
+#[derive(Clone, Copy)]
 pub struct Names {
     pub list: [Name; 14],
 }
 
 // Places: 0 to 3 services of the first HTTPS answer, 4 to 7 of its refresh, 8 + i the retry that came for attempt i.
-#[derive(Drop)]
+#[derive(Clone, Copy)]
 pub struct Echs {
     pub list: [Ech; 40],
 }
 
 // The place of an ECH configuration, or none.
-#[derive(Drop)]
+#[derive(Clone, Copy)]
 pub enum EchPlace {
     Without,
     At(u8),
 }
 
 // Which places hold the same name: for each the first such place, and 14 for an empty one. Decisions ask this in place of the bytes.
-#[derive(Drop)]
+#[derive(Clone, Copy)]
 pub struct SameNames {
     pub list: [u8; 14],
 }

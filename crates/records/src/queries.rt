@@ -4,7 +4,7 @@ ghost use Rattle.records.specs.Numbers.{kind_number, input_kind};
 ghost use Rattle.records.specs.Queries.{no_query, no_queries, no_addr, no_addresses, no_answers, answered, address_at};
 
 // The type of a query record.
-#[derive(Drop)]
+#[derive(Clone, Copy)]
 pub enum Kind {
     Https,
     Aaaa,
@@ -12,7 +12,7 @@ pub enum Kind {
 }
 
 // What a query record holds: the moment it came and how many addresses it has. An HTTPS answer has none: its services are counted where they lie.
-#[derive(Drop)]
+#[derive(Clone, Copy)]
 pub enum Answer {
     Pending,
     Failed(u64),
@@ -20,7 +20,7 @@ pub enum Answer {
 }
 
 // The query that revalidates a stale answer, with its id while it is in flight.
-#[derive(Drop)]
+#[derive(Clone, Copy)]
 pub enum Refresh {
     Idle,
     InFlight(u64),
@@ -28,7 +28,7 @@ pub enum Refresh {
 }
 
 // A query record; its name by place.
-#[derive(Drop)]
+#[derive(Clone, Copy)]
 pub struct Query {
     pub id: u64,
     pub kind: Kind,
@@ -38,27 +38,27 @@ pub struct Query {
     pub refresh: Refresh,
 }
 
-#[derive(Drop)]
+#[derive(Clone, Copy)]
 pub struct Queries {
     pub count: usize,
     pub list: [Query; 16],
 }
 
 // An IPv6 address in two halves with its scope, 0 for none. An IPv4 address is the low 32 bits of `lo`.
-#[derive(Drop)]
+#[derive(Clone, Copy)]
 pub struct Addr {
     pub hi: u64,
     pub lo: u64,
     pub scope: u32,
 }
 
-#[derive(Drop)]
+#[derive(Clone, Copy)]
 pub struct Addresses {
     pub list: [Addr; 8],
 }
 
 // The addresses of each query record, at the record's own place.
-#[derive(Drop)]
+#[derive(Clone, Copy)]
 pub struct Answers {
     pub list: [Addresses; 16],
 }

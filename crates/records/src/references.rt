@@ -9,7 +9,7 @@ use super::rules::{Alts, Host, Rules, host_of};
 use super::services::{Services, hint_four, hint_six};
 
 // Where the target of a listed endpoint is found.
-#[derive(Drop)]
+#[derive(Clone, Copy)]
 pub enum Source {
     // the answer of an AAAA or A record, by the record's place
     Held6(u8),
@@ -25,7 +25,7 @@ pub enum Source {
 }
 
 // A reference to a listed endpoint: `place` counts within its source. In this order of fields it takes eight bytes.
-#[derive(Drop)]
+#[derive(Clone, Copy)]
 pub struct Item {
     pub source: Source,
     pub port: u16,

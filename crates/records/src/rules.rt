@@ -3,7 +3,7 @@ ghost use Rattle.std.specs.Prelude.{◌≡◌};
 ghost use Rattle.records.specs.Rules.{no_alt, no_alts, prefers_six, allows_six, allows_four, by_name, with_https, is_named, host_of};
 
 // A host as the configuration gives it. A name's bytes lie in the table.
-#[derive(Drop)]
+#[derive(Clone, Copy)]
 pub enum Host {
     Named,
     V4(u32),
@@ -11,7 +11,7 @@ pub enum Host {
 }
 
 // `HttpVersion`
-#[derive(Drop)]
+#[derive(Clone, Copy)]
 pub enum Version {
     H3,
     H2,
@@ -19,7 +19,7 @@ pub enum Version {
 }
 
 // A set of versions.
-#[derive(Drop)]
+#[derive(Clone, Copy)]
 pub struct Versions {
     pub h3: bool,
     pub h2: bool,
@@ -27,7 +27,7 @@ pub struct Versions {
 }
 
 // `IpPreference`
-#[derive(Drop)]
+#[derive(Clone, Copy)]
 pub enum Preference {
     DualStackPreferV6,
     DualStackPreferV4,
@@ -36,7 +36,7 @@ pub enum Preference {
 }
 
 // `ResolutionMode`
-#[derive(Drop)]
+#[derive(Clone, Copy)]
 pub enum Mode {
     Ip,
     Name,
@@ -44,35 +44,35 @@ pub enum Mode {
 }
 
 // A port of its own, or else the origin's.
-#[derive(Drop)]
+#[derive(Clone, Copy)]
 pub enum Port {
     Origin,
     Own(u16),
 }
 
 // A host of its own, or else the origin's.
-#[derive(Drop)]
+#[derive(Clone, Copy)]
 pub enum AltHost {
     Origin,
     Own(Host),
 }
 
 // An alternative service. The name of number i lies at place 1 + i.
-#[derive(Drop)]
+#[derive(Clone, Copy)]
 pub struct Alt {
     pub host: AltHost,
     pub port: Port,
     pub version: Version,
 }
 
-#[derive(Drop)]
+#[derive(Clone, Copy)]
 pub struct Alts {
     pub count: usize,
     pub list: [Alt; 4],
 }
 
 // What decides which endpoints there are, and in which order.
-#[derive(Drop)]
+#[derive(Clone, Copy)]
 pub struct Rules {
     pub host: Host,
     pub port: u16,
@@ -83,7 +83,7 @@ pub struct Rules {
 }
 
 // What decides when they are attempted. Delays are nanoseconds; `wait` is `wait_for_preferred_address`.
-#[derive(Drop)]
+#[derive(Clone, Copy)]
 pub struct Timing {
     pub wait: bool,
     pub multiplier: u32,

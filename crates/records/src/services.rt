@@ -7,14 +7,14 @@ use super::names::EchPlace;
 use super::rules::{Port, Versions};
 
 // An IPv6 address of a hint, in two halves: a hint has no scope.
-#[derive(Drop)]
+#[derive(Clone, Copy)]
 pub struct Hint {
     pub hi: u64,
     pub lo: u64,
 }
 
 // A service of the HTTPS answer, with its hints of both families.
-#[derive(Drop)]
+#[derive(Clone, Copy)]
 pub struct Service {
     pub priority: u16,
     pub name: u8,
@@ -28,7 +28,7 @@ pub struct Service {
 }
 
 // In the answer's order; none where no HTTPS answer is held.
-#[derive(Drop)]
+#[derive(Clone, Copy)]
 pub struct Services {
     pub count: usize,
     pub list: [Service; 4],

@@ -1,5 +1,5 @@
 // Frames of a tape: where each body lies.
-ghost use Rattle.std.specs.Prelude.{◌≡◌};
+ghost use Rattle.std.specs.Prelude.{◌≡◌, ◌≤◌, ◌<◌, length, ℕ};
 ghost use Rattle.numbers.specs.Shown.{span_shown};
 ghost use Rattle.replay.specs.Frames.{body_at, frame_at, frame_shown};
 
@@ -9,7 +9,7 @@ use numbers::refusal::Refusal;
 
 const LONGEST_BODY: u64 = 4096;
 
-#[derive(Drop)]
+#[derive(Clone, Copy)]
 pub enum FrameRead {
     // The event's moment, where its body stands, and the place after it.
     Frame(u64, Span, usize),
@@ -32,14 +32,16 @@ fn body_at(tape: &[u8], at: usize) -> SpanRead
 
 // The configuration, with which a tape begins.
 pub fn configuration_at(tape: &[u8]) -> SpanRead
-    ensures { span_shown result ≡ body_at tape.now 0 }
+    ensures shown { span_shown result ≡ body_at tape.now 0 }
+    ensures within { (b : Span) (next : ℕ) → result ≡ SpanRead.Bytes b next → (b.start ≤ next) × (next ≤ length tape.now) }
 {
     body_at(tape, 0)
 }
 
 // The event at a place.
 pub fn frame_at(tape: &[u8], at: usize) -> FrameRead
-    ensures { frame_shown result ≡ frame_at tape.now at }
+    ensures shown { frame_shown result ≡ frame_at tape.now at }
+    ensures within { (moment : ℕ) (b : Span) (next : ℕ) → result ≡ FrameRead.Frame moment b next → (at < next) × (b.start ≤ next) × (next ≤ length tape.now) }
 {
     let m = read_number(tape, at);
     match m {

@@ -31,7 +31,7 @@ use state::changes::{first_ech, first_name};
 use state::made;
 use upcoming::classes::alike_of;
 
-#[derive(Drop)]
+#[derive(Clone, Copy)]
 pub struct Replayed {
     pub status: u8,
     pub place: usize,

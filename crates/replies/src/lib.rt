@@ -1,3 +1,4 @@
+#![tactic(auto)]
 // What an event is answered and what it changes, from what a call is given or what becomes of an input.
 ghost use Rattle.std.specs.Prelude.{◌<◌, ◌≡◌};
 ghost use Rattle.replies.specs.Replies.{call_reply, input_reply, fault_reply, event_in, is_call};
@@ -16,20 +17,20 @@ use state::attempts::Attempt;
 use state::changes::{CallChange, InputChange, Round};
 
 // A call's output, or what became of an input.
-#[derive(Drop)]
+#[derive(Clone, Copy)]
 pub enum Answer {
     Output(Output),
     Input(Taken),
 }
 
-#[derive(Drop)]
+#[derive(Clone, Copy)]
 pub enum Change {
     Nothing,
     Called(CallChange),
     Fed(InputChange),
 }
 
-#[derive(Drop)]
+#[derive(Clone, Copy)]
 pub struct Reply {
     pub answer: Answer,
     // 1 for a call
@@ -40,7 +41,7 @@ pub struct Reply {
 // What a change stores beside the ids: nothing; one query record, or one attempt, with its place and how many its table then has; such a
 // record with its addresses, with no service held any more, or with the services of a round; such an attempt with the retry that came for it
 // and that retry's place.
-#[derive(Drop)]
+#[derive(Clone, Copy)]
 pub enum Touched {
     Nothing,
     Asked(usize, Query, usize),

@@ -1,1 +1,2 @@
+#![tactic(auto)]
 // The standing rules: what holds of the machine at every moment. Definitions and laws, no code.

@@ -8,21 +8,21 @@ use records::services::Services;
 use state::attempts::{Attempt, Attempts, has_won, is_open};
 
 // A moment, where there is one.
-#[derive(Drop)]
+#[derive(Clone, Copy)]
 pub enum Moment {
     Never,
     At(u64),
 }
 
 // A place, where there is one.
-#[derive(Drop)]
+#[derive(Clone, Copy)]
 pub enum Place {
     Nowhere,
     At(usize),
 }
 
 // For each type of record, whether there is one.
-#[derive(Drop)]
+#[derive(Clone, Copy)]
 pub struct Kinds {
     pub https: bool,
     pub aaaa: bool,
@@ -30,7 +30,7 @@ pub struct Kinds {
 }
 
 // Of the attempts: whether one succeeded, how many are in progress, the latest start among those, and the first of them.
-#[derive(Drop)]
+#[derive(Clone, Copy)]
 pub struct Tries {
     pub won: bool,
     pub active: u64,
@@ -40,7 +40,7 @@ pub struct Tries {
 
 // Of the query records: which types were asked for and which of those are answered, whether a record or a refresh is unanswered, whether
 // an answer has an address, the oldest answer, and the first record whose refresh is due.
-#[derive(Drop)]
+#[derive(Clone, Copy)]
 pub struct Asks {
     pub asked: Kinds,
     pub answered: Kinds,
@@ -52,7 +52,7 @@ pub struct Asks {
 }
 
 // Of the services: whether one has a hint of the family.
-#[derive(Drop)]
+#[derive(Clone, Copy)]
 pub struct Hinted {
     pub six: bool,
     pub four: bool,

@@ -5,7 +5,7 @@ ghost use Rattle.state.specs.State.{no_attempt, no_attempts, no_retries, is_open
 use records::endpoints::{Endpoint, no_endpoint};
 
 // `ConnectionState`
-#[derive(Drop)]
+#[derive(Clone, Copy)]
 pub enum State {
     InProgress,
     Succeeded,
@@ -14,7 +14,7 @@ pub enum State {
 }
 
 // An attempt; `retry` says whether it is itself an ECH retry.
-#[derive(Drop)]
+#[derive(Clone, Copy)]
 pub struct Attempt {
     pub id: u64,
     pub endpoint: Endpoint,
@@ -23,14 +23,14 @@ pub struct Attempt {
     pub retry: bool,
 }
 
-#[derive(Drop)]
+#[derive(Clone, Copy)]
 pub struct Attempts {
     pub count: usize,
     pub list: [Attempt; 32],
 }
 
 // The attempts for which an ECH retry came, by place, in order of arrival. The bytes for attempt i lie at ECH place 8 + i. None is dropped.
-#[derive(Drop)]
+#[derive(Clone, Copy)]
 pub struct Retries {
     pub count: usize,
     pub list: [u8; 32],

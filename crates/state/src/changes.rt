@@ -6,14 +6,14 @@ use super::attempts::Attempt;
 use records::queries::Query;
 
 // Which of the two HTTPS answers it is: the first, or the one that replaces a stale one.
-#[derive(Drop)]
+#[derive(Clone, Copy)]
 pub enum Round {
     First,
     Second,
 }
 
 // What a call changes.
-#[derive(Drop)]
+#[derive(Clone, Copy)]
 pub enum CallChange {
     Nothing,
     // a new query record, or the record whose refresh is sent: an id is used
@@ -25,7 +25,7 @@ pub enum CallChange {
 }
 
 // What an input changes.
-#[derive(Drop)]
+#[derive(Clone, Copy)]
 pub enum InputChange {
     Nothing,
     // an attempt that ends

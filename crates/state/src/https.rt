@@ -7,7 +7,7 @@ ghost use Rattle.state.specs.Https.{decimal, digits_in, prefixed, name_in, Stand
 use records::names::{Name, name_len};
 
 // A port in decimal.
-#[derive(Drop)]
+#[derive(Clone, Copy)]
 pub struct Digits {
     pub count: usize,
     pub list: [u8; 5],

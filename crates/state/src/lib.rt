@@ -1,3 +1,4 @@
+#![tactic(auto)]
 // What the machine holds beside its records: attempts, retries, and the whole of it; and how it is made.
 ghost use Rattle.std.specs.Prelude.{◌≡◌};
 ghost use Rattle.state.specs.State.{is_prefixed, https_place, first_names, made};
@@ -14,7 +15,7 @@ pub mod attempts;
 pub mod changes;
 pub mod https;
 
-#[derive(Drop)]
+#[derive(Clone, Copy)]
 pub struct Machine {
     pub rules: Rules,
     pub timing: Timing,

@@ -6,18 +6,18 @@ ghost use Rattle.upcoming.specs.Alike.{host_class, ech_class, alike_hosts, alike
 use records::endpoints::{Endpoint, Target, same_head};
 use records::names::{EchPlace, SameNames};
 
-#[derive(Drop)]
+#[derive(Clone, Copy)]
 pub struct SameHosts {
     pub list: [u8; 14],
 }
 
-#[derive(Drop)]
+#[derive(Clone, Copy)]
 pub struct SameEchs {
     pub list: [u8; 40],
 }
 
 // What is the same among names, hosts and ECH bytes.
-#[derive(Drop)]
+#[derive(Clone, Copy)]
 pub struct Alike {
     pub names: SameNames,
     pub hosts: SameHosts,

@@ -15,7 +15,7 @@ use records::rules::{Alts, Rules};
 use records::services::Services;
 use state::attempts::{Attempts, Retries};
 
-#[derive(Drop)]
+#[derive(Clone, Copy)]
 pub enum Next {
     Nothing,
     New(Endpoint),

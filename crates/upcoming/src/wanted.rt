@@ -11,14 +11,14 @@ use starting::surveys::{Asks, Kinds, either};
 use state::https_place;
 
 // A type and a name by place.
-#[derive(Drop)]
+#[derive(Clone, Copy)]
 pub enum Wanted {
     Nothing,
     Query(Kind, u8),
 }
 
 // Which address types were asked for a name.
-#[derive(Drop)]
+#[derive(Clone, Copy)]
 pub struct Families {
     pub six: bool,
     pub four: bool,
