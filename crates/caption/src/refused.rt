@@ -5,27 +5,29 @@ use chart::page::DETAIL;
 use numbers::refusal::{Refusal, refusal_number};
 use plot::output::put_end;
 use replay::run::Replayed;
+use std::io;
 use telling::piece::{around, text};
 use wording::words::refusal;
 
 // Room for the words of a line.
 const WORDS: usize = 512;
 
-fn draw_only(line: &mut [u8], said: &[u8], n: usize) {
-    draw_begin(line, b"No race", 7, b"", 0, 72);
+fn draw_only(rt: &impl Print, line: &mut [u8], said: &[u8], n: usize) -> io::Result<()> {
+    draw_begin(rt, line, b"No race", 7, b"", 0, 72)?;
     draw_title(
+        rt,
         line,
         b"No race",
         7,
         b": the tape has no sound configuration",
         37,
-    );
-    draw_words(line, b"alarm", DETAIL, said, n);
-    put_end(line);
+    )?;
+    draw_words(rt, line, b"alarm", DETAIL, said, n)?;
+    put_end(rt, line)
 }
 
 // The page of a tape whose configuration is refused, at a place of its body.
-pub fn draw_refused(line: &mut [u8], e: Refusal, place: usize) {
+pub fn draw_refused(rt: &impl Print, line: &mut [u8], e: Refusal, place: usize) -> io::Result<()> {
     let mut said = [0u8; WORDS];
     let p = text(
         &mut said,
@@ -40,12 +42,12 @@ pub fn draw_refused(line: &mut [u8], e: Refusal, place: usize) {
         place as u64,
         b" of the configuration's body",
     );
-    draw_only(line, &said, n);
+    draw_only(rt, line, &said, n)
 }
 
 // The page of a tape that stops before its configuration's body.
-pub fn draw_stopped(line: &mut [u8], r: Replayed) {
+pub fn draw_stopped(rt: &impl Print, line: &mut [u8], r: Replayed) -> io::Result<()> {
     let mut said = [0u8; WORDS];
     let n = stop(&mut said, r);
-    draw_only(line, &said, n);
+    draw_only(rt, line, &said, n)
 }

@@ -7,7 +7,7 @@ use telling::piece::{around, text};
 use wording::reply::said_at;
 
 // Who won.
-#[derive(Drop)]
+#[derive(Clone, Copy)]
 pub enum Won {
     By(Asked),
     Nobody,

@@ -1,7 +1,7 @@
 // The moments that the events of a tape have.
 
 // The first moment and the last, the earliest and the latest, how often the clock went back, and by how much at most.
-#[derive(Drop)]
+#[derive(Clone, Copy)]
 pub struct Moments {
     pub any: bool,
     pub first: u64,

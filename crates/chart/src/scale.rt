@@ -9,7 +9,7 @@ const LEFT: u64 = 390;
 const WIDE: u64 = 680;
 
 // Times in nanoseconds from the earliest moment of a tape: those of its first event and of its latest moment.
-#[derive(Drop)]
+#[derive(Clone, Copy)]
 pub struct Scale {
     pub low: u64,
     pub zero: u64,

@@ -1,36 +1,37 @@
-// What the programs write to standard output: text, numbers, bytes in hexadecimal. No contract can say what is written (docs/LOOSE.md, 1).
-use libc::{STDERR_FILENO, STDOUT_FILENO};
+// What the programs write: text, numbers, bytes in hexadecimal. No contract can say what is written (docs/LOOSE.md, 1).
+#![tactic(auto)]
 
-pub fn text(s: &[u8]) {
-    io::write_all(STDOUT_FILENO, s);
+use std::io;
+
+pub fn text(rt: &impl Print, s: &[u8]) -> io::Result<()> {
+    rt.write_all(s)
 }
 
-pub fn number(n: u64) {
-    io::print_decimal(STDOUT_FILENO, n);
+pub fn number(rt: &impl Print, n: u64) -> io::Result<()> {
+    rt.print(n)
 }
 
 // A word of what went wrong, to standard error.
-pub fn complain(s: &[u8]) {
-    io::write_all(STDERR_FILENO, s);
+pub fn complain(stderr: &impl Print, s: &[u8]) -> io::Result<()> {
+    stderr.write_all(s)
 }
 
-fn byte(b: u8) {
-    text(b" ");
-    io::print_hex(STDOUT_FILENO, b as u64, 2);
+fn byte(rt: &impl Print, b: u8) -> io::Result<()> {
+    print!(rt; " {b:02x}")
 }
 
 // Each byte in two hexadecimal digits, with a space before it.
-pub fn bytes(s: &[u8]) {
-    let mut i: usize = 0;
-    while i < s.len() {
-        byte(s[i]);
-        i += 1;
+pub fn bytes(rt: &impl Print, s: &[u8]) -> io::Result<()> {
+    for b in s {
+        byte(rt, *b)?;
     }
+    Ok(())
 }
 
 // The first n bytes, if there are as many.
-pub fn first(s: &[u8], n: usize) {
+pub fn first(rt: &impl Print, s: &[u8], n: usize) -> io::Result<()> {
     if n <= s.len() {
-        bytes(&s[..n]);
+        bytes(rt, &s[..n])?;
     }
+    Ok(())
 }

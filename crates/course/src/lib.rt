@@ -1,8 +1,10 @@
 // The course of a race: what the machine asked for, what became of each, and what is counted on the way.
+#![tactic(auto)]
+
 use bodies::{Event, EventRead};
 use reader::Answer;
 
-#[derive(Drop)]
+#[derive(Clone, Copy)]
 pub enum Sort {
     Query,
     // a query that revalidates a stale answer
@@ -12,7 +14,7 @@ pub enum Sort {
     Retry,
 }
 
-#[derive(Drop)]
+#[derive(Clone, Copy)]
 pub enum Fate {
     Open,
     Answered,
@@ -22,14 +24,14 @@ pub enum Fate {
 }
 
 // An event: its place in the tape, and its moment.
-#[derive(Drop)]
+#[derive(Clone, Copy)]
 pub struct Point {
     pub place: usize,
     pub moment: u64,
 }
 
 // One thing that was asked for: where the answer that asks for it stands among the answers, from when and until when it was open.
-#[derive(Drop)]
+#[derive(Clone, Copy)]
 pub struct Asked {
     pub id: u64,
     pub sort: Sort,
@@ -40,13 +42,13 @@ pub struct Asked {
 }
 
 // In the order asked. No machine asks for more than 64: 16 queries, a refresh for each, and 32 attempts.
-#[derive(Drop)]
+#[derive(Clone, Copy)]
 pub struct Table {
     pub count: usize,
     pub list: [Asked; 64],
 }
 
-#[derive(Drop)]
+#[derive(Clone, Copy)]
 pub struct Tally {
     pub queries: u64,
     pub refreshes: u64,
@@ -58,14 +60,14 @@ pub struct Tally {
 }
 
 // A call: when it was made, and where its answer stands.
-#[derive(Drop)]
+#[derive(Clone, Copy)]
 pub struct Called {
     pub at: Point,
     pub place: usize,
 }
 
 // The latest call, if there is one, and the call after which the next came last.
-#[derive(Drop)]
+#[derive(Clone, Copy)]
 pub struct Calls {
     pub any: bool,
     pub last: Called,
@@ -73,7 +75,7 @@ pub struct Calls {
     pub before: Called,
 }
 
-#[derive(Drop)]
+#[derive(Clone, Copy)]
 pub struct Course {
     pub table: Table,
     pub tally: Tally,

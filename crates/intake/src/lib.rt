@@ -1,9 +1,13 @@
 // Tapes from standard input, one after the other, as differential/README.md says: each is the tape's length and the answer buffer's size, 8
 // bytes each, low byte first, then the tape. No contract can say what is read (docs/LOOSE.md, 1).
-ghost use Rattle.std.specs.Prelude.{◌≤◌};
+#![tactic(auto)]
+
+ghost use Rattle.std.specs.Io.KnownBytes.{Consumes, IsAtEnd};
+ghost use Rattle.std.specs.Prelude.{◌≤◌, ◌<◌, length, take, IfOk};
 
 use console::complain;
-use libc::STDIN_FILENO;
+use std::io;
+use std::io::Read;
 
 const LONGEST: usize = 65536;
 
@@ -37,53 +41,81 @@ fn eight(head: &[u8; 16], at: usize) -> u64
     v
 }
 
-fn read_head() -> Head {
-    let mut head = [0u8; 16];
-    let got = io::read_full(STDIN_FILENO, &mut head);
-    if got == 0 {
-        return Head::End;
+// Reads until the buffer is full or the input ends; how many bytes came.
+pub fn read_full<R: Read>(stdin: &mut R, buf: &mut [u8]) -> io::Result<usize>
+    ensures within { IfOk result (λ n. n ≤ length buf.new) }
+    ensures bytes { IfOk result (λ n. Consumes (R.remaining stdin.old) (R.remaining stdin.new) (take n buf.new)) }
+    ensures end { IfOk result (λ n. n < length buf.new → IsAtEnd (R.remaining stdin.new)) }
+{
+    let mut done: usize = 0;
+    while done < buf.len() {
+        let n = stdin.read(&mut buf[done..])?;
+        if n == 0 {
+            return Ok(done);
+        }
+        done += n;
     }
-    if got < 16 {
-        return Head::Cut;
-    }
-    Head::Sizes(eight(&head, 0), eight(&head, 8))
+    Ok(done)
 }
 
-fn tell(program: &[u8], fault: &[u8]) {
-    complain(program);
-    complain(fault);
+fn read_head(stdin: &mut impl Read) -> io::Result<Head> {
+    let mut head = [0u8; 16];
+    let got = read_full(stdin, &mut head)?;
+    if got == 0 {
+        return Ok(Head::End);
+    }
+    if got < 16 {
+        return Ok(Head::Cut);
+    }
+    Ok(Head::Sizes(eight(&head, 0), eight(&head, 8)))
+}
+
+fn tell(stderr: &impl Print, program: &[u8], fault: &[u8]) -> io::Result<()> {
+    complain(stderr, program)?;
+    complain(stderr, fault)
 }
 
 // Reads a tape of this length; false if the room or the input has no such tape.
-fn filled(tape: &mut [u8], long: u64, program: &[u8]) -> bool {
+fn filled(
+    stdin: &mut impl Read,
+    stderr: &impl Print,
+    tape: &mut [u8],
+    long: u64,
+    program: &[u8],
+) -> io::Result<bool> {
     if (tape.len() as u64) < long {
-        tell(program, b": a tape of more than 65,536 bytes\n");
-        return false;
+        tell(stderr, program, b": a tape of more than 65,536 bytes\n")?;
+        return Ok(false);
     }
     let n = long as usize;
-    let got = io::read_full(STDIN_FILENO, &mut tape[..n]);
+    let got = read_full(stdin, &mut tape[..n])?;
     if got < n {
-        tell(program, b": the input ends inside a tape\n");
-        return false;
+        tell(stderr, program, b": the input ends inside a tape\n")?;
+        return Ok(false);
     }
-    true
+    Ok(true)
 }
 
 // Reads the next tape: its length and the answer buffer's size. A longer tape, or an input that ends inside one, is told on standard error
 // under the program's name, and is the end.
-pub fn next_tape(tape: &mut [u8; LONGEST], program: &[u8]) -> Next {
-    let h = read_head();
+pub fn next_tape(
+    stdin: &mut impl Read,
+    stderr: &impl Print,
+    tape: &mut [u8; LONGEST],
+    program: &[u8],
+) -> io::Result<Next> {
+    let h = read_head(stdin)?;
     match h {
-        Head::End => Next::End,
+        Head::End => Ok(Next::End),
         Head::Cut => {
-            tell(program, b": the input ends before a tape\n");
-            Next::End
+            tell(stderr, program, b": the input ends before a tape\n")?;
+            Ok(Next::End)
         }
         Head::Sizes(long, room) => {
-            if filled(tape, long, program) {
-                return Next::Tape(long, room);
+            if filled(stdin, stderr, tape, long, program)? {
+                return Ok(Next::Tape(long, room));
             }
-            Next::End
+            Ok(Next::End)
         }
     }
 }

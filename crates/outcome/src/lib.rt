@@ -1,6 +1,9 @@
 // What a race came to.
+#![tactic(auto)]
+
 use course::{Asked, Calls, Course, Fate, Table, Tally, is_open, was_open, winner};
 use reader::{Answer, AnswerRead, answer_at};
+use std::io;
 use telling::lines::show_first;
 use telling::piece::{around, millis, since, text};
 use wording::reply::{failed, said_at};
@@ -37,70 +40,95 @@ fn ended(out: &mut [u8], at: usize, a: Asked) -> usize {
     took(out, p, from.moment, until.moment)
 }
 
-fn show_asked(line: &mut [u8], answers: &[u8], a: Asked) {
+fn show_asked(rt: &impl Print, line: &mut [u8], answers: &[u8], a: Asked) -> io::Result<()> {
     let p = text(line, 0, b"  ");
     let q = said_at(line, p, answers, a.place);
     let r = ended(line, q, a);
-    show_first(line, r);
+    show_first(rt, line, r)
 }
 
 // All that was asked for.
-fn show_table(line: &mut [u8], answers: &[u8], t: Table) {
+fn show_table(rt: &impl Print, line: &mut [u8], answers: &[u8], t: Table) -> io::Result<()> {
     let n = t.count;
     let mut i: usize = 0;
     while i < 64 {
         if n <= i {
-            return;
+            return Ok(());
         }
         let a = t.list[i];
-        show_asked(line, answers, a);
+        show_asked(rt, line, answers, a)?;
         i += 1;
     }
+    Ok(())
 }
 
 // Shows something that was open after the event at a place; whether it was.
-fn show_if_open(line: &mut [u8], answers: &[u8], a: Asked, place: usize) -> bool {
+fn show_if_open(
+    rt: &impl Print,
+    line: &mut [u8],
+    answers: &[u8],
+    a: Asked,
+    place: usize,
+) -> io::Result<bool> {
     if !was_open(a, place) {
-        return false;
+        return Ok(false);
     }
     let p = text(line, 0, b"  ");
     let q = said_at(line, p, answers, a.place);
-    show_first(line, q);
-    true
+    show_first(rt, line, q)?;
+    Ok(true)
 }
 
 // What was open after that event, each on a line of its own; whether there was any.
-fn show_open(line: &mut [u8], answers: &[u8], t: Table, place: usize) -> bool {
+fn show_open(
+    rt: &impl Print,
+    line: &mut [u8],
+    answers: &[u8],
+    t: Table,
+    place: usize,
+) -> io::Result<bool> {
     let n = t.count;
     let mut any = false;
     let mut i: usize = 0;
     while i < 64 {
         if n <= i {
-            return any;
+            return Ok(any);
         }
         let a = t.list[i];
-        let open = show_if_open(line, answers, a, place);
+        let open = show_if_open(rt, line, answers, a, place)?;
         if open {
             any = true;
         }
         i += 1;
     }
-    any
+    Ok(any)
 }
 
-fn show_line(line: &mut [u8], s: &[u8]) {
+fn show_line(rt: &impl Print, line: &mut [u8], s: &[u8]) -> io::Result<()> {
     let n = text(line, 0, s);
-    show_first(line, n);
+    show_first(rt, line, n)
 }
 
-fn show_unanswered(line: &mut [u8], answers: &[u8], t: Table, place: usize) {
-    if show_open(line, answers, t, place) {
-        return;
+fn show_unanswered(
+    rt: &impl Print,
+    line: &mut [u8],
+    answers: &[u8],
+    t: Table,
+    place: usize,
+) -> io::Result<()> {
+    if show_open(rt, line, answers, t, place)? {
+        return Ok(());
     }
-    show_line(line, b"  nothing");
+    show_line(rt, line, b"  nothing")
 }
 
-fn show_won(line: &mut [u8], answers: &[u8], a: Asked, first: u64) {
+fn show_won(
+    rt: &impl Print,
+    line: &mut [u8],
+    answers: &[u8],
+    a: Asked,
+    first: u64,
+) -> io::Result<()> {
     let from = a.from;
     let until = a.until;
     let p = text(line, 0, b"Won after ");
@@ -109,7 +137,7 @@ fn show_won(line: &mut [u8], answers: &[u8], a: Asked, first: u64) {
     let s = said_at(line, r, answers, a.place);
     let t = text(line, s, b"; it took ");
     let u = took(line, t, from.moment, until.moment);
-    show_first(line, u);
+    show_first(rt, line, u)
 }
 
 fn failure_said(line: &mut [u8], a: Answer) -> usize {
@@ -135,30 +163,43 @@ fn failure(line: &mut [u8], answers: &[u8], c: Calls) -> usize {
     }
 }
 
-fn show_failed(line: &mut [u8], answers: &[u8], t: Table, n: usize, first: u64, moment: u64) {
+fn show_failed(
+    rt: &impl Print,
+    line: &mut [u8],
+    answers: &[u8],
+    t: Table,
+    n: usize,
+    first: u64,
+    moment: u64,
+) -> io::Result<()> {
     let p = text(line, n, b", said after ");
     let q = took(line, p, first, moment);
     let r = text(line, q, b". Asked for:");
-    show_first(line, r);
-    show_table(line, answers, t);
+    show_first(rt, line, r)?;
+    show_table(rt, line, answers, t)
 }
 
-fn show_outcome(line: &mut [u8], answers: &[u8], t: Table, c: Calls, first: u64) {
+fn show_outcome(
+    rt: &impl Print,
+    line: &mut [u8],
+    answers: &[u8],
+    t: Table,
+    c: Calls,
+    first: u64,
+) -> io::Result<()> {
     let last = c.last;
     let at = last.at;
     let w = winner(t);
     if w < 64 {
         let a = t.list[w];
-        show_won(line, answers, a, first);
-        return;
+        return show_won(rt, line, answers, a, first);
     }
     let n = failure(line, answers, c);
     if 0 < n {
-        show_failed(line, answers, t, n, first, at.moment);
-        return;
+        return show_failed(rt, line, answers, t, n, first, at.moment);
     }
-    show_line(line, b"Not decided. Unanswered at the end:");
-    show_unanswered(line, answers, t, usize::MAX);
+    show_line(rt, line, b"Not decided. Unanswered at the end:")?;
+    show_unanswered(rt, line, answers, t, usize::MAX)
 }
 
 fn asks(out: &mut [u8], at: usize, y: Tally) -> usize {
@@ -168,12 +209,12 @@ fn asks(out: &mut [u8], at: usize, y: Tally) -> usize {
     around(out, r, b", of them ECH retries ", y.retries, b"")
 }
 
-fn show_tally(line: &mut [u8], y: Tally) {
+fn show_tally(rt: &impl Print, line: &mut [u8], y: Tally) -> io::Result<()> {
     let p = asks(line, 0, y);
     let q = around(line, p, b", cancels ", y.cancels, b"");
     let r = around(line, q, b", refused inputs ", y.refused, b"");
     let s = around(line, r, b", calls ", y.calls, b"");
-    show_first(line, s);
+    show_first(rt, line, s)
 }
 
 fn gap(out: &mut [u8], at: usize, ns: u64, from: u64) -> usize {
@@ -189,28 +230,39 @@ fn gap(out: &mut [u8], at: usize, ns: u64, from: u64) -> usize {
 }
 
 // The longest gap between two calls, and what the machine was waiting for then.
-fn show_gap(line: &mut [u8], answers: &[u8], t: Table, c: Calls) {
+fn show_gap(
+    rt: &impl Print,
+    line: &mut [u8],
+    answers: &[u8],
+    t: Table,
+    c: Calls,
+) -> io::Result<()> {
     let before = c.before;
     let at = before.at;
     if c.longest == 0 {
-        show_line(line, b"No time passed between two calls.");
-        return;
+        return show_line(rt, line, b"No time passed between two calls.");
     }
     let p = gap(line, 0, c.longest, at.moment);
     let q = said_at(line, p, answers, before.place);
     let r = text(line, q, b". Unanswered then:");
-    show_first(line, r);
-    show_unanswered(line, answers, t, at.place);
+    show_first(rt, line, r)?;
+    show_unanswered(rt, line, answers, t, at.place)
 }
 
 // What the tape came to, from its first event's moment on.
-pub fn show_summary(line: &mut [u8], answers: &[u8], c: Course, first: u64) {
+pub fn show_summary(
+    rt: &impl Print,
+    line: &mut [u8],
+    answers: &[u8],
+    c: Course,
+    first: u64,
+) -> io::Result<()> {
     let t = c.table;
     let y = c.tally;
     let k = c.calls;
-    show_line(line, b"");
-    show_line(line, b"Summary");
-    show_outcome(line, answers, t, k, first);
-    show_tally(line, y);
-    show_gap(line, answers, t, k);
+    show_line(rt, line, b"")?;
+    show_line(rt, line, b"Summary")?;
+    show_outcome(rt, line, answers, t, k, first)?;
+    show_tally(rt, line, y)?;
+    show_gap(rt, line, answers, t, k)
 }

@@ -9,7 +9,7 @@ use reader::{AnswerRead, answer_at};
 use replay::frames::{FrameRead, frame_at};
 
 // The course of the events, their moments, and the scale that these have.
-#[derive(Drop)]
+#[derive(Clone, Copy)]
 pub struct Gathered {
     pub course: Course,
     pub moments: Moments,
@@ -17,7 +17,7 @@ pub struct Gathered {
 }
 
 // What is kept from event to event: what was gathered, and the place of the next answer.
-#[derive(Drop)]
+#[derive(Clone, Copy)]
 struct Kept {
     course: Course,
     moments: Moments,

@@ -5,9 +5,10 @@ use chart::scale::{Scale, column};
 use plot::output::put;
 use reader::{Answer, AnswerRead, answer_at};
 use replay::frames::{FrameRead, frame_at};
+use std::io;
 
 // The last event's moment, the last call's, its column, and the timer that it was given, 0 for none.
-#[derive(Drop)]
+#[derive(Clone, Copy)]
 struct Wait {
     any: bool,
     last: u64,
@@ -41,61 +42,86 @@ fn wait_end(w: Wait, next: u64) -> u64 {
     std::num::wrapping_add_u64(w.since, w.timer)
 }
 
-fn draw_timer(line: &mut [u8], s: Scale, w: Wait, next: u64) {
+fn draw_timer(rt: &impl Print, line: &mut [u8], s: Scale, w: Wait, next: u64) -> io::Result<()> {
     let from = column(s, w.since);
     let until = column(s, wait_end(w, next));
     if from < until {
         let n = bar(line, 0, b"timer", from, until, WAITS);
-        put(line, n);
+        put(rt, line, n)?;
     }
+    Ok(())
 }
 
 // A stroke at a column that isn't that of the call before.
-fn draw_call(line: &mut [u8], w: Wait, x: u64) {
+fn draw_call(rt: &impl Print, line: &mut [u8], w: Wait, x: u64) -> io::Result<()> {
     if w.column != x {
         let n = mark(line, 0, b"begin", x, WAITS);
-        put(line, n);
+        put(rt, line, n)?;
     }
+    Ok(())
 }
 
 // Draws a call, and the wait before it; what is waited for then.
-fn called(line: &mut [u8], s: Scale, w: Wait, a: Answer, moment: u64) -> Wait {
+fn called(
+    rt: &impl Print,
+    line: &mut [u8],
+    s: Scale,
+    w: Wait,
+    a: Answer,
+    moment: u64,
+) -> io::Result<Wait> {
     let x = column(s, moment);
-    draw_timer(line, s, w, moment);
-    draw_call(line, w, x);
-    Wait {
+    draw_timer(rt, line, s, w, moment)?;
+    draw_call(rt, line, w, x)?;
+    Ok(Wait {
         any: true,
         last: moment,
         since: moment,
         column: x,
         timer: timer_of(a),
-    }
+    })
 }
 
-fn draw_back(line: &mut [u8], s: Scale, w: Wait, moment: u64) {
+fn draw_back(rt: &impl Print, line: &mut [u8], s: Scale, w: Wait, moment: u64) -> io::Result<()> {
     if !w.any {
-        return;
+        return Ok(());
     }
     if moment < w.last {
         let n = mark(line, 0, b"back", column(s, moment), BACKS);
-        put(line, n);
+        put(rt, line, n)?;
     }
+    Ok(())
 }
 
 // Draws an event and the answer to it.
-fn happened(line: &mut [u8], s: Scale, w: Wait, a: Answer, moment: u64) -> Wait {
-    draw_back(line, s, w, moment);
+fn happened(
+    rt: &impl Print,
+    line: &mut [u8],
+    s: Scale,
+    w: Wait,
+    a: Answer,
+    moment: u64,
+) -> io::Result<Wait> {
+    draw_back(rt, line, s, w, moment)?;
     if is_call(a) {
-        return called(line, s, w, a, moment);
+        return called(rt, line, s, w, a, moment);
     }
     let mut out = w;
     out.any = true;
     out.last = moment;
-    out
+    Ok(out)
 }
 
 // Draws the events from a place up to an end.
-pub fn draw_waits(tape: &[u8], answers: &[u8], line: &mut [u8], s: Scale, from: usize, end: usize) {
+pub fn draw_waits(
+    rt: &impl Print,
+    tape: &[u8],
+    answers: &[u8],
+    line: &mut [u8],
+    s: Scale,
+    from: usize,
+    end: usize,
+) -> io::Result<()> {
     let mut w = Wait {
         any: false,
         last: 0,
@@ -108,15 +134,15 @@ pub fn draw_waits(tape: &[u8], answers: &[u8], line: &mut [u8], s: Scale, from: 
     while at < end {
         let f = frame_at(tape, at);
         let FrameRead::Frame(moment, _, next) = f else {
-            return;
+            return Ok(());
         };
         let r = answer_at(answers, place);
         let AnswerRead::Answer(a, after) = r else {
-            return;
+            return Ok(());
         };
-        w = happened(line, s, w, a, moment);
+        w = happened(rt, line, s, w, a, moment)?;
         place = after;
         at = next;
     }
-    draw_timer(line, s, w, w.last);
+    draw_timer(rt, line, s, w, w.last)
 }

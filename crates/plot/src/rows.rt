@@ -5,6 +5,7 @@ use chart::markup::{bar, close_text, mark, open_text, words};
 use chart::page::{crown, line_of};
 use chart::scale::{Scale, column};
 use course::{Asked, Fate, Sort, Table, is_open, winner};
+use std::io;
 use telling::piece::text;
 use wording::reply::said_at;
 
@@ -100,7 +101,16 @@ fn crowned(out: &mut [u8], at: usize, won: bool, y: u64) -> usize {
     at
 }
 
-fn draw_row(line: &mut [u8], answers: &[u8], s: Scale, last: u64, a: Asked, i: usize, won: bool) {
+fn draw_row(
+    rt: &impl Print,
+    line: &mut [u8],
+    answers: &[u8],
+    s: Scale,
+    last: u64,
+    a: Asked,
+    i: usize,
+    won: bool,
+) -> io::Result<()> {
     let y = line_of(i);
     let below = y + 3;
     let end = end_of(a, last);
@@ -108,37 +118,51 @@ fn draw_row(line: &mut [u8], answers: &[u8], s: Scale, last: u64, a: Asked, i: u
     let q = label(line, p, answers, a.place, below);
     let r = drawn(line, q, s, a, end, y);
     let t = time(line, r, a, below);
-    put(line, t);
+    put(rt, line, t)
 }
 
-fn draw_none(line: &mut [u8]) {
+fn draw_none(rt: &impl Print, line: &mut [u8]) -> io::Result<()> {
     let n = text(
         line,
         0,
         b"<text class=\"label\" x=\"16\" y=\"155\">nothing was asked for</text>\n",
     );
-    put(line, n);
+    put(rt, line, n)
 }
 
-fn draw_table(line: &mut [u8], answers: &[u8], s: Scale, last: u64, t: Table) {
+fn draw_table(
+    rt: &impl Print,
+    line: &mut [u8],
+    answers: &[u8],
+    s: Scale,
+    last: u64,
+    t: Table,
+) -> io::Result<()> {
     let w = winner(t);
     let n = t.count;
     let mut i: usize = 0;
     while i < 64 {
         if n <= i {
-            return;
+            return Ok(());
         }
         let a = t.list[i];
-        draw_row(line, answers, s, last, a, i, i == w);
+        draw_row(rt, line, answers, s, last, a, i, i == w)?;
         i += 1;
     }
+    Ok(())
 }
 
 // Draws a row for each thing asked for, on a tape with this last moment.
-pub fn draw_rows(line: &mut [u8], answers: &[u8], s: Scale, last: u64, t: Table) {
+pub fn draw_rows(
+    rt: &impl Print,
+    line: &mut [u8],
+    answers: &[u8],
+    s: Scale,
+    last: u64,
+    t: Table,
+) -> io::Result<()> {
     if t.count == 0 {
-        draw_none(line);
-        return;
+        return draw_none(rt, line);
     }
-    draw_table(line, answers, s, last, t);
+    draw_table(rt, line, answers, s, last, t)
 }

@@ -3,6 +3,7 @@ use super::output::put;
 use chart::markup::{close_text, open_text};
 use chart::page::{NUMBERS, grid};
 use chart::scale::{Scale, column_of, step_of};
+use std::io;
 use telling::piece::{millis, number, text};
 
 // A number of the scale: whole milliseconds, where its steps are whole.
@@ -22,29 +23,37 @@ fn signed(out: &mut [u8], at: usize, ns: u64, zero: u64, step: u64) -> usize {
     written(out, at, ns - zero, step)
 }
 
-fn draw_line(line: &mut [u8], s: Scale, ns: u64, step: u64, low: u64) {
+fn draw_line(
+    rt: &impl Print,
+    line: &mut [u8],
+    s: Scale,
+    ns: u64,
+    step: u64,
+    low: u64,
+) -> io::Result<()> {
     let x = column_of(s, ns);
     let p = grid(line, 0, x, low);
     let q = open_text(line, p, b"number", x, NUMBERS);
     let r = signed(line, q, ns, s.zero, step);
     let t = close_text(line, r);
-    put(line, t);
+    put(rt, line, t)
 }
 
 // Draws the lines of a scale, down to a line of the page.
-pub fn draw_ruler(line: &mut [u8], s: Scale, low: u64) {
+pub fn draw_ruler(rt: &impl Print, line: &mut [u8], s: Scale, low: u64) -> io::Result<()> {
     let step = step_of(s.range);
     let mut ns = s.zero % step;
     let mut i: u64 = 0;
     while i < 8 {
         if s.range < ns {
-            return;
+            return Ok(());
         }
-        draw_line(line, s, ns, step, low);
+        draw_line(rt, line, s, ns, step, low)?;
         if s.range - ns < step {
-            return;
+            return Ok(());
         }
         ns = ns + step;
         i += 1;
     }
+    Ok(())
 }

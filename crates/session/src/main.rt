@@ -1,6 +1,8 @@
 // Sessions with a live machine. Takes tapes from standard input as differential/README.md says, each of at most 65,536 bytes: the tape's
 // length and the answer buffer's size, 8 bytes each, low byte first, then the tape. Each goes event by event through the two calls to which
 // the machine is lent; for each it writes how many bytes were answered, and whether they are replay's.
+#![tactic(auto)]
+
 ghost use Rattle.std.specs.Prelude.{◌≤◌, length};
 
 use configuration::{SetupRead, read_configuration};
@@ -12,13 +14,15 @@ use numbers::field::SpanRead;
 use numbers::put::{Wrote, put_bytes};
 use replay::frames::{FrameRead, configuration_at, frame_at};
 use state::Machine;
+use std::io;
+use std::io::Read;
 
 const TAPE: usize = 65536;
 
 const ROOM: usize = 336434;
 
 // A machine amid a tape: where the next event begins, and how many bytes are answered.
-#[derive(Drop)]
+#[derive(Clone, Copy)]
 struct Session {
     at: usize,
     written: usize,
@@ -159,56 +163,71 @@ fn same(a: &[u8], b: &[u8]) -> bool {
     true
 }
 
-fn verdict(alike: bool) {
+fn verdict(rt: &impl Print, alike: bool) -> io::Result<()> {
     if alike {
-        text(b" bytes of answers, replay's\n");
+        text(rt, b" bytes of answers, replay's\n")
     } else {
-        text(b" bytes of answers, not replay's\n");
+        text(rt, b" bytes of answers, not replay's\n")
     }
 }
 
 // The buffers are held against each other whole: neither way may touch a byte behind the answers.
-fn compared(tape: &[u8], told: &mut [u8], live: &mut [u8]) {
+fn compared(rt: &impl Print, tape: &[u8], told: &mut [u8], live: &mut [u8]) -> io::Result<()> {
     let r = replay::tape::replay(tape, told);
     let written = live_answers(tape, live);
-    number(written as u64);
+    number(rt, written as u64)?;
     if written == r.written {
-        verdict(same(told, live));
+        verdict(rt, same(told, live))
     } else {
-        verdict(false);
+        verdict(rt, false)
     }
 }
 
 // Holds the two ways of answering the tape of this length that stands in the buffer against each other.
-fn one(tape: &[u8], told: &mut [u8], live: &mut [u8], long: u64, room: u64) {
+fn one(
+    rt: &impl Print,
+    tape: &[u8],
+    told: &mut [u8],
+    live: &mut [u8],
+    long: u64,
+    room: u64,
+) -> io::Result<()> {
     let n = least(long, tape.len());
     let m = least(room, told.len());
     let k = least(room, live.len());
-    compared(&tape[..n], &mut told[..m], &mut live[..k]);
+    compared(rt, &tape[..n], &mut told[..m], &mut live[..k])
 }
 
 // The next tape; false if there is none.
-fn next(tape: &mut [u8; TAPE], told: &mut [u8; ROOM], live: &mut [u8; ROOM]) -> bool {
-    let t = next_tape(tape, b"session");
+fn next(
+    rt: &impl Print,
+    stdin: &mut impl Read,
+    stderr: &impl Print,
+    tape: &mut [u8; TAPE],
+    told: &mut [u8; ROOM],
+    live: &mut [u8; ROOM],
+) -> io::Result<bool> {
+    let t = next_tape(stdin, stderr, tape, b"session")?;
     match t {
-        Next::End => false,
+        Next::End => Ok(false),
         Next::Tape(long, room) => {
-            one(tape, told, live, long, room);
-            true
+            one(rt, tape, told, live, long, room)?;
+            Ok(true)
         }
     }
 }
 
-fn main() {
+fn main(rt: HostRuntime) -> io::Result<()> {
+    let mut stdin = rt.stdin();
+    let stderr = rt.stderr();
     let mut tape = [0u8; TAPE];
     let mut told = [0u8; ROOM];
     let mut live = [0u8; ROOM];
     // More tapes than any input has.
-    let mut left: u64 = 18446744073709551615;
-    while 0 < left {
-        left -= 1;
-        if !next(&mut tape, &mut told, &mut live) {
-            return;
+    for _ in 0..u64::MAX {
+        if !next(&rt, &mut stdin, &stderr, &mut tape, &mut told, &mut live)? {
+            return Ok(());
         }
     }
+    Ok(())
 }

@@ -1,12 +1,15 @@
 // Tells a tape from standard input in words: one entry an event and one an answer, then what the race came to.
+#![tactic(auto)]
+
 ghost use Rattle.std.specs.Prelude.{◌≤◌, length};
 
 use bodies::{EventRead, read_event};
 use configuration::{SetupRead, read_configuration};
+use console::complain;
 use course::{Course, Point, course_after, no_course};
 use entries::host::event;
 use entries::setup::setup;
-use libc::{STDERR_FILENO, STDIN_FILENO};
+use intake::read_full;
 use numbers::field::SpanRead;
 use numbers::refusal::refusal_number;
 use outcome::show_summary;
@@ -14,6 +17,8 @@ use reader::{Answer, AnswerRead, answer_at};
 use replay::frames::{FrameRead, configuration_at, frame_at};
 use replay::run::Replayed;
 use replay::tape::replay;
+use std::io;
+use std::io::Read;
 use telling::lines::show_first;
 use telling::piece::{around, since, text};
 use wording::reply::{answer, fault_place};
@@ -47,26 +52,35 @@ fn gone_back(line: &mut [u8], at: usize, last: u64, moment: u64) -> usize {
 }
 
 // What the host says at a moment; the moment before it tells whether the clock went back.
-fn show_event(line: &mut [u8], body: &[u8], read: EventRead, first: u64, last: u64, moment: u64) {
+fn show_event(
+    rt: &impl Print,
+    line: &mut [u8],
+    body: &[u8],
+    read: EventRead,
+    first: u64,
+    last: u64,
+    moment: u64,
+) -> io::Result<()> {
     let p = head(line, first, moment, b"host: ");
     let q = gone_back(line, p, last, moment);
     let r = event(line, q, body, read);
-    show_first(line, r);
+    show_first(rt, line, r)
 }
 
 // What the machine answers.
 fn show_answer(
+    rt: &impl Print,
     line: &mut [u8],
     answers: &[u8],
     a: Answer,
     read: EventRead,
     first: u64,
     moment: u64,
-) {
+) -> io::Result<()> {
     let p = head(line, first, moment, b"machine: ");
     let q = answer(line, p, answers, a);
     let r = fault_place(line, q, read);
-    show_first(line, r);
+    show_first(rt, line, r)
 }
 
 // The moment of the first event; of a tape that has none, 0.
@@ -79,7 +93,7 @@ fn first_moment(tape: &[u8], at: usize) -> u64 {
 }
 
 // What is kept from event to event: the course so far, the moments of the first event and of the last, and the place of the next answer.
-#[derive(Drop)]
+#[derive(Clone, Copy)]
 struct Told {
     course: Course,
     first: u64,
@@ -89,6 +103,7 @@ struct Told {
 
 // Tells the event whose body stands from start up to end, and the answer to it.
 fn show_step(
+    rt: &impl Print,
     tape: &[u8],
     answers: &[u8],
     line: &mut [u8],
@@ -96,7 +111,7 @@ fn show_step(
     end: usize,
     told: Told,
     point: Point,
-) -> Told
+) -> io::Result<Told>
     requires { (start ≤ end) × (end ≤ length tape.now) }
 {
     let course = told.course;
@@ -104,25 +119,32 @@ fn show_step(
     let first = told.first;
     let said = answer_at(answers, place);
     match said {
-        AnswerRead::Refused(_) => told,
+        AnswerRead::Refused(_) => Ok(told),
         AnswerRead::Answer(a, after) => {
             let body = &tape[start..end];
             let read = read_event(body);
-            show_event(line, body, read, first, told.last, point.moment);
-            show_answer(line, answers, a, read, first, point.moment);
+            show_event(rt, line, body, read, first, told.last, point.moment)?;
+            show_answer(rt, line, answers, a, read, first, point.moment)?;
             let c = course_after(course, read, a, place, point);
-            Told {
+            Ok(Told {
                 course: c,
                 first,
                 last: point.moment,
                 place: after,
-            }
+            })
         }
     }
 }
 
 // Tells the events from a place up to where replay ended, and then what they came to.
-fn show_events(tape: &[u8], answers: &[u8], line: &mut [u8], from: usize, r: Replayed) {
+fn show_events(
+    rt: &impl Print,
+    tape: &[u8],
+    answers: &[u8],
+    line: &mut [u8],
+    from: usize,
+    r: Replayed,
+) -> io::Result<()> {
     let end = r.place;
     let first = first_moment(tape, from);
     let none = no_course();
@@ -137,33 +159,39 @@ fn show_events(tape: &[u8], answers: &[u8], line: &mut [u8], from: usize, r: Rep
         let f = frame_at(tape, at);
         match f {
             FrameRead::Refused(_) => {
-                return;
+                return Ok(());
             }
             FrameRead::Frame(moment, b, next) => {
                 let start = b.start;
                 let point = Point { place: at, moment };
-                told = show_step(tape, answers, line, start, next, told, point);
+                told = show_step(rt, tape, answers, line, start, next, told, point)?;
                 at = next;
             }
         }
     }
     let course = told.course;
-    show_end(line, r);
-    show_summary(line, answers, course, first);
+    show_end(rt, line, r)?;
+    show_summary(rt, line, answers, course, first)
 }
 
 // Why replay stopped; nothing of a tape that it went through.
-fn show_end(line: &mut [u8], r: Replayed) {
+fn show_end(rt: &impl Print, line: &mut [u8], r: Replayed) -> io::Result<()> {
     if r.status == 0 {
-        return;
+        return Ok(());
     }
     let p = around(line, 0, b"The tape stops at byte ", r.place as u64, b": ");
     let q = refusal(line, p, r.status as u64);
-    show_first(line, q);
+    show_first(rt, line, q)
 }
 
 // Tells the configuration, whose body stands from start up to end; whether it is sound.
-fn show_setup(tape: &[u8], line: &mut [u8], start: usize, end: usize) -> bool
+fn show_setup(
+    rt: &impl Print,
+    tape: &[u8],
+    line: &mut [u8],
+    start: usize,
+    end: usize,
+) -> io::Result<bool>
     requires { (start ≤ end) × (end ≤ length tape.now) }
 {
     let body = &tape[start..end];
@@ -179,52 +207,58 @@ fn show_setup(tape: &[u8], line: &mut [u8], start: usize, end: usize) -> bool
                 place as u64,
                 b" of the configuration's body",
             );
-            show_first(line, s);
-            false
+            show_first(rt, line, s)?;
+            Ok(false)
         }
         SetupRead::Setup(s, _) => {
             let n = setup(line, 0, body, s);
-            show_first(line, n);
-            true
+            show_first(rt, line, n)?;
+            Ok(true)
         }
     }
 }
 
-fn show_tape(tape: &[u8], answers: &[u8], line: &mut [u8], r: Replayed) {
+fn show_tape(
+    rt: &impl Print,
+    tape: &[u8],
+    answers: &[u8],
+    line: &mut [u8],
+    r: Replayed,
+) -> io::Result<()> {
     let f = configuration_at(tape);
     match f {
-        SpanRead::Refused(_) => show_end(line, r),
+        SpanRead::Refused(_) => show_end(rt, line, r),
         SpanRead::Bytes(b, next) => {
             let start = b.start;
-            if !show_setup(tape, line, start, next) {
-                return;
+            if !show_setup(rt, tape, line, start, next)? {
+                return Ok(());
             }
-            show_events(tape, answers, line, next, r);
+            show_events(rt, tape, answers, line, next, r)
         }
     }
 }
 
-fn show(tape: &[u8]) {
+fn show(rt: &impl Print, tape: &[u8]) -> io::Result<()> {
     let mut answers = [0u8; ROOM];
     let mut line = [0u8; LINE];
     let r = replay(tape, &mut answers);
-    show_tape(tape, &answers, &mut line, r);
+    show_tape(rt, tape, &answers, &mut line, r)
 }
 
 // Whether standard input has more bytes.
-fn more() -> bool {
+fn more(stdin: &mut impl Read) -> io::Result<bool> {
     let mut one = [0u8; 1];
-    0 < io::read_full(STDIN_FILENO, &mut one)
+    Ok(0 < read_full(stdin, &mut one)?)
 }
 
-fn main() {
-    let mut tape = io::large_buffer();
-    let n = io::read_full(STDIN_FILENO, &mut tape);
+fn main(rt: HostRuntime) -> io::Result<()> {
+    let mut stdin = rt.stdin();
+    let mut tape = [0u8; 65536];
+    let n = read_full(&mut stdin, &mut tape)?;
     if n == 65536 {
-        if more() {
-            io::write_all(STDERR_FILENO, b"story: more than 65,536 bytes\n");
-            return;
+        if more(&mut stdin)? {
+            return complain(&rt.stderr(), b"story: more than 65,536 bytes\n");
         }
     }
-    show(&tape[..n]);
+    show(&rt, &tape[..n])
 }

@@ -1,33 +1,37 @@
 // Replays the tape on standard input, of at most 65,536 bytes, and says what became of it: replay's four numbers, tape check's number, and
 // each answer in hexadecimal, one to a line, after the word for its kind. A longer tape is told on standard error, and nothing else is
 // written.
+#![tactic(auto)]
+
 ghost use Rattle.std.specs.Prelude.{◌≤◌, ◌<◌, length};
 
 use console::{complain, number, text};
-use libc::STDIN_FILENO;
+use intake::read_full;
 use reader::{AnswerRead, answer_at};
+use std::io;
+use std::io::Read;
 
-// The answers to no tape of 65,536 bytes take more (proved: tapes/Claims roomFor).
+// The answers to no tape of 65,536 bytes take more (proved: tapes/Claims room_for).
 const ROOM: usize = 336434;
 
-fn show_number(name: &[u8], n: u64) {
-    text(name);
-    number(n);
-    text(b"\n");
+fn show_number(rt: &impl Print, name: &[u8], n: u64) -> io::Result<()> {
+    text(rt, name)?;
+    number(rt, n)?;
+    text(rt, b"\n")
 }
 
 // The word for an answer's kind, by its first byte.
-fn show_kind(kind: u8) {
+fn show_kind(rt: &impl Print, kind: u8) -> io::Result<()> {
     match kind {
-        0 => text(b"waiting  "),
-        1 => text(b"query    "),
-        2 => text(b"timer    "),
-        3 => text(b"attempt  "),
-        4 => text(b"cancel   "),
-        5 => text(b"succeeded"),
-        6 => text(b"failed   "),
-        7 => text(b"full     "),
-        _ => text(b"input    "),
+        0 => text(rt, b"waiting  "),
+        1 => text(rt, b"query    "),
+        2 => text(rt, b"timer    "),
+        3 => text(rt, b"attempt  "),
+        4 => text(rt, b"cancel   "),
+        5 => text(rt, b"succeeded"),
+        6 => text(rt, b"failed   "),
+        7 => text(rt, b"full     "),
+        _ => text(rt, b"input    "),
     }
 }
 
@@ -50,54 +54,56 @@ fn end_of(s: &[u8], at: usize) -> usize
     }
 }
 
-fn show_answer(s: &[u8]) {
+fn show_answer(rt: &impl Print, s: &[u8]) -> io::Result<()> {
     if 0 < s.len() {
-        show_kind(s[0]);
+        show_kind(rt, s[0])?;
     }
-    console::bytes(s);
-    text(b"\n");
+    console::bytes(rt, s)?;
+    text(rt, b"\n")
 }
 
-fn show_answers(s: &[u8]) {
+fn show_answers(rt: &impl Print, s: &[u8]) -> io::Result<()> {
     let mut at: usize = 0;
     while at < s.len() {
         let end = end_of(s, at);
-        show_answer(&s[at..end]);
+        show_answer(rt, &s[at..end])?;
         at = end;
     }
+    Ok(())
 }
 
-fn show_first(s: &[u8], n: usize) {
+fn show_first(rt: &impl Print, s: &[u8], n: usize) -> io::Result<()> {
     if n <= s.len() {
-        show_answers(&s[..n]);
+        show_answers(rt, &s[..n])?;
     }
+    Ok(())
 }
 
-fn show_replay(tape: &[u8], out: &mut [u8]) {
+fn show_replay(rt: &impl Print, tape: &[u8], out: &mut [u8]) -> io::Result<()> {
     let r = replay::tape::replay(tape, out);
-    show_number(b"status  ", r.status as u64);
-    show_number(b"place   ", r.place as u64);
-    show_number(b"written ", r.written as u64);
-    show_number(b"calls   ", r.calls as u64);
-    show_number(b"check   ", replay::check::tape_check(tape) as u64);
-    show_first(out, r.written);
+    show_number(rt, b"status  ", r.status as u64)?;
+    show_number(rt, b"place   ", r.place as u64)?;
+    show_number(rt, b"written ", r.written as u64)?;
+    show_number(rt, b"calls   ", r.calls as u64)?;
+    show_number(rt, b"check   ", replay::check::tape_check(tape) as u64)?;
+    show_first(rt, out, r.written)
 }
 
 // Whether standard input has another byte.
-fn more() -> bool {
+fn more(stdin: &mut impl Read) -> io::Result<bool> {
     let mut next = [0u8; 1];
-    0 < io::read_full(STDIN_FILENO, &mut next)
+    Ok(0 < read_full(stdin, &mut next)?)
 }
 
-fn main() {
-    let mut tape = io::large_buffer();
-    let n = io::read_full(STDIN_FILENO, &mut tape);
+fn main(rt: HostRuntime) -> io::Result<()> {
+    let mut stdin = rt.stdin();
+    let mut tape = [0u8; 65536];
+    let n = read_full(&mut stdin, &mut tape)?;
     if n == 65536 {
-        if more() {
-            complain(b"tape: more than 65,536 bytes\n");
-            return;
+        if more(&mut stdin)? {
+            return complain(&rt.stderr(), b"tape: more than 65,536 bytes\n");
         }
     }
     let mut out = [0u8; ROOM];
-    show_replay(&tape[..n], &mut out);
+    show_replay(&rt, &tape[..n], &mut out)
 }

@@ -1,7 +1,7 @@
 // Lines of at most 100 columns. A longer text continues indented by four; a line that is broken inside a word ends with a backslash.
 ghost use Rattle.std.specs.Prelude.{◌≤◌, ◌<◌, length};
 
-use libc::STDOUT_FILENO;
+use std::io;
 
 const COLUMNS: usize = 100;
 
@@ -20,12 +20,12 @@ fn blank(s: &[u8], from: usize, most: usize) -> usize
     e
 }
 
-fn write(s: &[u8]) {
-    io::write_all(STDOUT_FILENO, s);
+fn write(rt: &impl Print, s: &[u8]) -> io::Result<()> {
+    rt.write_all(s)
 }
 
 // Writes a text in lines.
-pub fn show(s: &[u8]) {
+pub fn show(rt: &impl Print, s: &[u8]) -> io::Result<()> {
     let mut at: usize = 0;
     let mut width: usize = COLUMNS;
     while width < s.len() - at {
@@ -33,23 +33,24 @@ pub fn show(s: &[u8]) {
         let end = blank(s, at, most);
         if end == at {
             let stop = most - 1;
-            write(&s[at..stop]);
-            write(b"\\\n    ");
+            write(rt, &s[at..stop])?;
+            write(rt, b"\\\n    ")?;
             at = stop;
         } else {
-            write(&s[at..end]);
-            write(b"\n    ");
+            write(rt, &s[at..end])?;
+            write(rt, b"\n    ")?;
             at = end + 1;
         }
         width = 96;
     }
-    write(&s[at..]);
-    write(b"\n");
+    write(rt, &s[at..])?;
+    write(rt, b"\n")
 }
 
 // Writes the first n bytes of a text in lines.
-pub fn show_first(s: &[u8], n: usize) {
+pub fn show_first(rt: &impl Print, s: &[u8], n: usize) -> io::Result<()> {
     if n <= s.len() {
-        show(&s[0..n]);
+        show(rt, &s[0..n])?;
     }
+    Ok(())
 }

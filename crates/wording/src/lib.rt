@@ -1,3 +1,5 @@
 // What the machine says, in words.
+#![tactic(auto)]
+
 pub mod reply;
 pub mod words;
