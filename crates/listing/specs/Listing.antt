@@ -3,7 +3,7 @@
 --     "Services by priority, stable" ordered; "each interleaved alone" dealt, items_to_attempt (rules 4.5 and 4.15)
 --     "skip those without ECH .." records' any_ech, usable (rule 4.6); "Unless so, then alternative services and origin together" tiers, last_runs
 --     (H) "A service's endpoints" service_held, service_hints, service_runs (rules 4.7 and 4.8); its versions from_http_versions, enabled (rule 4.3)
---     (H) "Origin fallback" origin_targets, origin_runs (rule 4.9); (H) "A host's addresses" Held.heldAt (rule 4.11)
+--     (H) "Origin fallback" origin_targets, origin_runs (rule 4.9); (H) "A host's addresses" Held.held_at (rule 4.11)
 --     "An alternative service" alt_targets, alt_runs (rule 4.10); the name of a by-name endpoint is records' connect_name (rule 4.12)
 -- `same` says of two places among the names whether they hold the same name (rule S.7).
 use Rattle.std.specs.Prelude.{ℕ, ◌+◌, min, Bool, true, false, cond, ◌&&◌, List, [], ◌∷◌, ◌++◌, map, length, take, get_or}

@@ -1,4 +1,4 @@
--- What the loop of `name_ok` keeps: a name walked byte by byte (rule S.5). That it says what `name_ok` says is proved (proofs/NameWalk.antt).
+-- What the loop of the function `name_ok` keeps: a name walked byte by byte (rule S.5). That it says what specs/Names' `name_ok` says is proved (proofs/NameWalk.antt).
 use Rattle.std.specs.Prelude.{ℕ, ◌+◌, Bool, ◌&&◌, cond, List, [], ◌∷◌, length, nat_lt, nat_eq}
 use Rattle.numbers.specs.Names.{dot, is_digit, name_byte}
 

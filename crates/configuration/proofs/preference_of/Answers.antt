@@ -1,0 +1,20 @@
+-- `configuration::preference_of` meets its contract.
+use borrow.Author.Tests.{eq-eqb, ne_eqb}
+use Rattle.configuration.specs.Configuration.{preference_of}
+use Rattle.configuration.proofs.preference_of.Goals as goal
+
+pub returns-then-v-eq0 : goal.returns-then-v-eq0
+unfolding preference_of
+returns-then-v-eq0 c = simp (eq-eqb _ _ c.if-v-eq0.true)
+
+pub returns-then-v-eq1 : goal.returns-then-v-eq1
+unfolding preference_of
+returns-then-v-eq1 c = simp (ne_eqb _ _ c.if-v-eq0.false, eq-eqb _ _ c.if-v-eq1.true)
+
+pub returns-then-v-eq2 : goal.returns-then-v-eq2
+unfolding preference_of
+returns-then-v-eq2 c = simp (ne_eqb _ _ c.if-v-eq0.false, ne_eqb _ _ c.if-v-eq1.false, eq-eqb _ _ c.if-v-eq2.true)
+
+pub returns : goal.returns
+unfolding preference_of
+returns c = simp (ne_eqb _ _ c.if-v-eq0.false, ne_eqb _ _ c.if-v-eq1.false, ne_eqb _ _ c.if-v-eq2.false)

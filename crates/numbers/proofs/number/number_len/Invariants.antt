@@ -1,0 +1,11 @@
+use mathlib.Core.Path.{◌≡◌}
+use Prim.Native.Nat.{◌+◌, ◌-◌, ◌*◌, ◌^◌, ◌≤◌, ◌<◌}
+use lib.ListN.{length}
+use Rattle.numbers.specs.Numbers.{shortest, number_bytes}
+use Rattle.numbers.proofs.number.number_len.Given as goal
+
+abbrev pub invariant-loop-v : goal.invariant-loop-v
+invariant-loop-v l = (l.i + length (shortest (9 - l.i) l.v) ≡ length (number_bytes l.n)) × (l.v < 2 ^ (64 - 7 * l.i)) × (l.i ≤ 9)
+
+abbrev pub decreases-loop-v : goal.decreases-loop-v
+decreases-loop-v l = 9 - l.i

@@ -1,0 +1,7 @@
+-- `records::endpoints::same_echs` meets its contract: equal places have equal bytes, others are compared.
+use Rattle.records.proofs.Alike.{places-echs}
+use Rattle.records.proofs.endpoints.same_echs.Goals as goal
+
+pub returns-then-p-q : goal.returns-then-p-q
+returns-then-p-q c =
+    rw (c.in-At.is, c.in-At-b.is, ← c.if-p-q.true) (places-echs _ _)
