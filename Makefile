@@ -1,7 +1,7 @@
 # make: proves what the story and the picture of a tape rest on, tells a race and draws it. make test: the gate. make bench: times, no
 # test. make figures: lines, times of checks, the last benchmark.
 # make install: the archive for C, its header, pkg-config file and licence, below PREFIX. make fuzz: tapes against the C entries, no test.
-KIT := rattle-kit-5b logic 064da1ca440f63e7
+KIT := rattle-kit-13f logic dac8208d650f15bf
 PREFIX ?= /usr/local
 SECONDS ?= 60
 VERSION := $(shell sed -n 's/^.define BRAIDHATCH_VERSION \([0-9]*\)$$/\1/p' include/braidhatch.h)
@@ -10,8 +10,7 @@ VERSION := $(shell sed -n 's/^.define BRAIDHATCH_VERSION \([0-9]*\)$$/\1/p' incl
 
 show: kit
 	@echo "Proving the known examples and what the story and the picture of a tape rest on: some fifteen minutes the first time, seconds later."
-	@{ rt check known tape story picture 2>&1; echo $$? >target/show.status; } | tee target/show.log | grep --line-buffered '^rt: '
-	@test "$$(cat target/show.status)" = 0 || { cat target/show.log; exit 1; }
+	@for it in known tape story picture; do echo "$$it"; tests/built $$it || exit 1; done
 	@echo; echo "The known examples:"; tests/program known
 	@echo; echo "A race, differential/stored/race.tape, told:"; tests/program story <differential/stored/race.tape
 	@tests/program picture <differential/stored/race.tape >target/race.svg

@@ -1,5 +1,5 @@
 #!/bin/sh
-# Makes what `rt check` runs the programs on of stored tapes: crates/tape/stdin, and for `many` and `session` also what they must write.
+# Makes what `rt ci` runs the programs on of stored tapes: crates/tape/stdin, and for `many` and `session` also what they must write.
 set -eu
 cd "$(dirname "$0")"
 

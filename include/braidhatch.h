@@ -1,4 +1,4 @@
-/* Braidhatch: the racing core of Happy Eyeballs version 3, proved to meet its contracts. Link libbraidhatch.a (x86-64, System V ABI).
+/* Braidhatch: the racing core of Happy Eyeballs version 3, proved to meet its contracts. Link libbraidhatch.a (x86-64-v2, System V ABI).
  *
  * The three entries take numbers and byte slices, a slice being a pointer and a length. They do no I/O, use no heap and no writable data,
  * and depend on nothing but their arguments: any number of threads may call them at once. Of the C library they need memcpy and the like.

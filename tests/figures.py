@@ -1,8 +1,8 @@
 #!/usr/bin/env python3
 """Prints one table of all crates: lines of code, definitions, laws and proofs of functions, edits that must be refused, and the time of a
-check in units of one check of `pacing`. Each crate is proved from nothing, by itself, in a copy of the repository. With --lines nothing is
-proved. Lines that are blank or only a comment aren't counted; the time is CPU, so read the ratios. Below it stands what the last
-`make bench` printed."""
+check in units of one check of `pacing`. Each crate is proved from nothing, by itself, in a copy of the repository: by the kit's compiler,
+since `rt check` begins with what earlier checks kept. With --lines nothing is proved. Lines that are blank or only a comment aren't counted;
+the time is CPU, so read the ratios. Below it stands what the last `make bench` printed."""
 import os
 import resource
 import shutil
@@ -10,13 +10,10 @@ import subprocess
 import sys
 import tempfile
 
+sys.dont_write_bytecode = True
+import kit  # noqa: E402
+
 COLUMNS = ["crate", "code", "definitions", "laws", "proofs", "edits", "check"]
-
-
-def crates():
-    with open("crates.txt", encoding="utf-8") as lines:
-        listed = [line.split("#")[0] for line in lines]
-    return [line.split(":")[0].strip() for line in listed if ":" in line]
 
 
 def lines_of(path):
@@ -28,7 +25,8 @@ def lines_of(path):
 def counts(crate):
     """Code, definitions, laws, proofs of functions, edits."""
     found = dict.fromkeys(COLUMNS[1:6], 0)
-    for folder, _, files in os.walk(f"crates/{crate}"):
+    for folder, folders, files in os.walk(f"crates/{crate}"):
+        folders[:] = [it for it in folders if it != "out"]
         for name in files:
             path = os.path.join(folder, name)
             if name.endswith(".edit"):
@@ -37,7 +35,7 @@ def counts(crate):
                 found["code"] += lines_of(path)
             elif name.endswith(".antt") and "/specs" in folder:
                 found["definitions"] += lines_of(path)
-            elif name == "Proof.antt":
+            elif name.endswith(".antt") and "/proofs/" in folder:
                 found["proofs"] += lines_of(path)
             elif name.endswith(".antt"):
                 found["laws"] += lines_of(path)
@@ -51,19 +49,26 @@ def spent():
 
 def times(names):
     """The CPU seconds of each crate's check, what it rests on being proved before it."""
-    room = tempfile.mkdtemp()
+    room, top = tempfile.mkdtemp(), os.getcwd()
     try:
         subprocess.run(["git", "clone", "--quiet", ".", room], check=True)
-        taken = {}
-        for name in names:
+        os.chdir(room)
+        taken, listed = {}, kit.crates()
+        # (each behind those that it uses)
+        for name in sorted(names, key=lambda it: len(kit.below(it, listed))):
+            is_library = not listed[name][0] and os.path.isfile(f"crates/{name}/src/lib.rt")
+            os.makedirs(f"crates/{name}/out/rlib")
+            words = kit.words("build" if is_library else "check", name, listed)
+            words += ["-o", f"out/rlib/{name}.rlib"] if is_library else []
             before = spent()
-            said = subprocess.run(["rt", "check", name], cwd=room, capture_output=True, text=True, check=False)
+            said = subprocess.run(words, cwd=f"crates/{name}", capture_output=True, text=True, check=False)
             if said.returncode != 0:
                 sys.exit(f"figures: {name} is not proved\n{said.stdout[-2000:]}")
             taken[name] = spent() - before
             print(f"figures: {name} {taken[name]:.1f} s", file=sys.stderr)
         return taken
     finally:
+        os.chdir(top)
         shutil.rmtree(room)
 
 
@@ -80,7 +85,7 @@ def benchmark():
 
 def main():
     os.chdir(os.path.join(os.path.dirname(os.path.abspath(__file__)), ".."))
-    names = crates()
+    names = list(kit.crates())
     taken = {} if "--lines" in sys.argv else times(names)
     rows, total = [], [0] * 5
     for name in names:

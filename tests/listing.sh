@@ -1,5 +1,5 @@
 #!/bin/sh
-# The proved listing against the model's, on states of random histories and on others. Run after `rt ci`, which removes target/.
+# The proved listing against the model's, on states of random histories and on others.
 set -eu
 cd "$(dirname "$0")/.."
 tests/native probes

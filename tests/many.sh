@@ -1,8 +1,9 @@
 #!/bin/sh
-# The program `many`, which rt has built, on inputs that it doesn't take: what came before them is answered, and they are told in words. What
+# The program `many` on inputs that it doesn't take: what came before them is answered, and they are told in words. What
 # it answers to tapes is compared by tests/replay.sh.
 set -eu
 cd "$(dirname "$0")/.."
+tests/built many
 work=$(mktemp -d)
 trap 'rm -rf "$work"' EXIT
 

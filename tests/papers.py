@@ -41,7 +41,7 @@ def read(path):
 
 def walk():
     for folder, folders, names in os.walk('.'):
-        folders[:] = sorted(f for f in folders if f not in ('target', '.git'))
+        folders[:] = sorted(f for f in folders if f not in ('target', '.git', 'out'))
         yield from (os.path.join(folder, name)[2:] for name in sorted(names))
 
 
@@ -60,7 +60,7 @@ def read_crates():
     for line in read('crates.txt').splitlines():
         if line.strip() and not line.startswith('#'):
             name, seen = line.split(':')
-            crates[name.strip()] = seen.split()
+            crates[name.split()[0]] = seen.split()  # a static library's name has a word after it
     return crates
 
 

@@ -6,7 +6,7 @@ cd "$(dirname "$0")/.."
 work=target/picture
 rm -rf "$work"
 mkdir -p "$work/stored" "$work/tapes" "$work/random"
-[ -x target/bin/picture ] || rt check picture >"$work/log" 2>&1 || { cat "$work/log"; exit 1; }
+tests/built picture
 (cd differential && cargo build --release --offline -p compare >"../$work/log" 2>&1) || { cat "$work/log"; exit 1; }
 
 # The stored tapes noroom-* are answered into too short a buffer; the picture has room for every answer.

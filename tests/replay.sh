@@ -1,8 +1,10 @@
 #!/bin/sh
 # The proved replay and tape check, by the program `many`: the stored answers, then the model's on random, damaged and arbitrary tapes and on
-# the tapes of demand 3's simulation. Run after `rt ci`, which builds the program.
+# the tapes of demand 3's simulation.
 set -eu
-cd "$(dirname "$0")/../differential"
+cd "$(dirname "$0")/.."
+tests/built many
+cd differential
 built=../target/differential/release
 many="../tests/program many"
 log=../target/differential/replay.log

@@ -1,8 +1,7 @@
 #!/bin/sh
 # The shell's side: the header, the C entries against the stored answers and the model, an installed copy, writable data, stack, threads.
 # `tests/shell.sh HISTORIES DAMAGED ARBITRARY SEED` compares more tapes with the model (differential/README.md, `compare plug`); without
-# these words, few of them, and under an emulator none. With SANITIZE=1 the C side but for stack.c is built with the address and
-# undefined-behaviour sanitizers; NATIVE=1 is explained in tests/c.
+# these words, few of them. With SANITIZE=1 the C side but for stack.c is built with the address and undefined-behaviour sanitizers.
 set -eu
 cd "$(dirname "$0")/.."
 scratch=$(mktemp -d)
@@ -37,35 +36,26 @@ export ASAN_OPTIONS
 compare=target/differential/release/compare
 (cd differential && cargo build --release --offline --quiet -p compare)
 amounts=$*
-if [ -z "$amounts" ] && [ -z "$emulator" ]; then
-  amounts='20 2 1000 1'
-fi
+[ -n "$amounts" ] || amounts='20 2 1000 1'
 quiet() {
   "$@" >>"$scratch/compared" || { cat "$scratch/compared"; exit 1; }
 }
-quiet $compare stored $emulator target/host/entries
-if [ -n "$amounts" ]; then
-  quiet $compare plug $amounts $emulator target/host/entries
-fi
+quiet $compare stored target/host/entries
+quiet $compare plug $amounts target/host/entries
 grep -E 'disagreements|^refusals' "$scratch/compared"
 if ! grep -q '^refusals' "$scratch/compared" || grep -q '^refusals.*: 0\(,\|$\)' "$scratch/compared"; then
   echo "shell: not every refusal from 1 to 13 was given"
   exit 1
 fi
-$compare delays 100000 1 $emulator target/host/entries --delays
+$compare delays 100000 1 target/host/entries --delays
 
-$emulator target/host/race differential/stored/example.tape >"$scratch/race"
+target/host/race differential/stored/example.tape >"$scratch/race"
 diff tests/race.txt "$scratch/race"
 echo "race: the example in words"
-if [ "$maker" = tests/archive ]; then
-  tests/installed "$compiler" "$emulator"
-else
-  echo "installed: not run: what is installed is for x86-64"
-fi
+tests/installed
 
-# The emulator has a word to say of each child that falls.
-$emulator target/host/stack differential/stored/*.tape >"$scratch/stack" 2>"$scratch/falls" || { cat "$scratch/falls"; exit 1; }
+target/host/stack differential/stored/*.tape >"$scratch/stack" 2>"$scratch/falls" || { cat "$scratch/falls"; exit 1; }
 most=$(sed -n 's/^#define BRAIDHATCH_STACK_SIZE \([0-9]*\)$/\1/p' include/braidhatch.h)
 awk -v most="$most" '{ print "stack:", $1, $2, "bytes" } most < $2 || 524288 <= most { wide = 1 } END { exit wide }' "$scratch/stack"
-$emulator target/host/threads 1 differential/stored/*.tape
+target/host/threads 1 differential/stored/*.tape
 echo "shell: passed"

@@ -5,7 +5,7 @@ cd "$(dirname "$0")/.."
 work=target/story
 rm -rf "$work"
 mkdir -p "$work/stored" "$work/tapes" "$work/random"
-[ -x target/bin/story ] || rt check story >"$work/log" 2>&1 || { cat "$work/log"; exit 1; }
+tests/built story
 (cd differential && cargo build --release --offline -p compare >"../$work/log" 2>&1) || { cat "$work/log"; exit 1; }
 
 # The stored tapes noroom-* are answered into too short a buffer; the story has room for every answer.

@@ -1,8 +1,9 @@
 #!/bin/sh
-# The program `tape`, which rt has built, on the example, the empty tape, each refusal and a tape that is too long. What it says is held to
+# The program `tape` on the example, the empty tape, each refusal and a tape that is too long. What it says is held to
 # the stored results and answers.
 set -eu
 cd "$(dirname "$0")/.."
+tests/built tape
 stored=differential/stored
 work=$(mktemp -d)
 trap 'rm -rf "$work"' EXIT

@@ -1,5 +1,4 @@
-//! Links libprobes.a if it is there: `rt staticlib probes` writes it, for x86-64 alone, and tests/native for the processor that is here,
-//! into a folder that ARCHIVES names.
+//! Links libprobes.a if it is there: tests/archive writes it, for x86-64 alone, and tests/native puts it into a folder that ARCHIVES names.
 
 use std::env;
 use std::path::PathBuf;

@@ -17,7 +17,7 @@ fn main() -> ExitCode {
             let agree = run(states, any, seed);
             if !THERE {
                 println!(
-                    "no archive of the proved listing: `rt staticlib probes`, then build again"
+                    "no archive of the proved listing: `tests/native probes`, then build again"
                 );
             }
             ExitCode::from(u8::from(!agree || !THERE))

@@ -31,7 +31,7 @@ fn main() {
 }
 
 fn listings() {
-    assert!(listing::THERE, "no archive of the proved listing: `rt staticlib probes`");
+    assert!(listing::THERE, "no archive of the proved listing: `tests/native probes`");
     let mut races: Vec<Race> = states::all().iter().map(Race::at).collect();
     for _ in 0..TURNS {
         races.iter_mut().for_each(Race::run);
