@@ -1,4 +1,4 @@
-// The live calls over a machine that is lent for the call alone: it goes in by value and comes back, so a covered function can use them.
+// The live calls over a machine that is lent for the call alone: it goes in by value and comes back, for a caller that holds it by value.
 ghost use Rattle.std.specs.Prelude.{◌≡◌, length};
 ghost use Rattle.numbers.specs.Put.{put_bytes};
 ghost use Rattle.live.specs.Live.{fed_of, called_bytes, called_of};
