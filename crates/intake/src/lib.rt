@@ -3,7 +3,7 @@
 #![tactic(auto)]
 
 ghost use Rattle.std.specs.Io.KnownBytes.{Consumes, IsAtEnd};
-ghost use Rattle.std.specs.Prelude.{◌≤◌, ◌<◌, length, take, IfOk};
+ghost use Rattle.std.specs.Prelude.{◌≡◌, ◌≤◌, ◌<◌, length, take, IfOk, OnErr, ℕ};
 
 use console::complain;
 use std::io;
@@ -41,11 +41,13 @@ fn eight(head: &[u8; 16], at: usize) -> u64
     v
 }
 
-// Reads until the buffer is full or the input ends; how many bytes came.
+// Reads until the buffer is full or the input ends; how many bytes came. After an error what came before it stands at the buffer's front.
 pub fn read_full<R: Read>(stdin: &mut R, buf: &mut [u8]) -> io::Result<usize>
     ensures within { IfOk result (λ n. n ≤ length buf.new) }
     ensures bytes { IfOk result (λ n. Consumes (R.remaining stdin.old) (R.remaining stdin.new) (take n buf.new)) }
     ensures end { IfOk result (λ n. n < length buf.new → IsAtEnd (R.remaining stdin.new)) }
+    ensures err { OnErr result ((n : ℕ) × (n ≤ length buf.new) × Consumes (R.remaining stdin.old) (R.remaining stdin.new) (take n buf.new)) }
+    ensures length { length buf.new ≡ length buf.old }
 {
     let mut done: usize = 0;
     while done < buf.len() {
