@@ -9,7 +9,7 @@ VERSION := $(shell sed -n 's/^.define BRAIDHATCH_VERSION \([0-9]*\)$$/\1/p' incl
 .PHONY: show test differential bench figures install fuzz kit
 
 show: kit
-	@echo "Proving the known examples and what the story and the picture of a tape rest on: some fifteen minutes the first time, seconds later."
+	@echo "Proving the known examples and what the story and the picture of a tape rest on: this takes its time at first, and seconds later."
 	@for it in known tape story picture; do echo "$$it"; tests/built $$it || exit 1; done
 	@echo; echo "The known examples:"; tests/program known
 	@echo; echo "A race, differential/stored/race.tape, told:"; tests/program story <differential/stored/race.tape

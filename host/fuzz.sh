@@ -4,8 +4,7 @@
 # The tapes and answer-buffer sizes are libFuzzer's, from the stored tapes on; the model judges every answer. What guides it is the coverage
 # of the model, which is built with counters and says of each tape what the entries must say: the archive itself has none. Each process
 # talks to the entries in a program of their own, whose C side is built with the address and undefined-behaviour sanitizers and which links
-# the archive. With the name of a slip of differential/spoils.txt, this one
-# is put into the copy of the model that judges, and must be found.
+# the archive. With the name of a slip of differential/spoils.txt, this one is put into the copy of the model that judges, and must be found.
 set -eu
 cd "$(dirname "$0")/.."
 seconds=$1

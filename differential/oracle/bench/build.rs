@@ -1,4 +1,4 @@
-//! Links libbraidhatch.a of the folder that ARCHIVES names, which tests/native makes for this processor.
+//! Links libbraidhatch.a of the folder that ARCHIVES names, into which tests/native puts it.
 
 fn main() {
     println!("cargo:rerun-if-env-changed=ARCHIVES");
