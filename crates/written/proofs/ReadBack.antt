@@ -1,5 +1,5 @@
 -- A body that is written is never refused: reading gives back what was written, and ends where the body ends.
---     read-back
+--     read_back
 use mathlib.Core.Path.{◌≡◌, refl, sym, ap, subst, ◌∙◌}
 use mathlib.Core.Bool.{Bool, true, false}
 use mathlib.Core.List.{List, [], ◌++◌, map, map-id}
