@@ -104,6 +104,11 @@ module _ (s : List ℕ) (i v p : ℕ) (inside : p < length s) where
   at_last hv hi hb h9 h0 =
       rw (front, groups-last (9 - i) p (get_or s p 0) (drop (p + 1) s) hb (λ e. h9 (omega arith)), mod-eq_of_lt hb) (on-got i v (get_or s p 0) (p + 1) hv h0)
 
+  -- a number of one group, 0: that group, added, leaves the value as it is
+  pub at_lone : (w : ℕ) → w ≡ v + 2 ^ (7 * i) * (get_or s p 0 % 128) → get_or s p 0 ≡ 0 → i ≡ 0 → v < 2 ^ (7 * i)
+      → here s i v p ≡ got w (p + 1)
+  at_lone w hw e z hv = at_last hv (omega arith) (omega arith) (λ n. omega arith) (λ n. z) ∙ ap (λ (x : ℕ). got x (p + 1)) (sym hw)
+
   pub at_more : v < 2 ^ (7 * i) → i < 9 → 128 ≤ get_or s p 0
       → here s i v p ≡ here s (i + 1) (v + 2 ^ (7 * i) * (get_or s p 0 % 128)) (p + 1)
   unfolding here

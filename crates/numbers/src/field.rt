@@ -65,6 +65,7 @@ pub fn read_bytes(s: &[u8], at: usize, len: usize) -> SpanRead
 }
 
 // The length of a name: 0 is BadName, above the limit TooMany.
+#[tactic(auto, unfolding(crate::specs::Fields::name_length))]
 fn read_name_length(s: &[u8], at: usize, limit: u64) -> Read
     ensures { read_shown result ≡ name_length limit (read_number s.now at) }
 {

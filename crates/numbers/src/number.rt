@@ -23,6 +23,7 @@ fn add_group(v: u64, b: u8, i: u32) -> u64
 }
 
 // The number that starts at the place at.
+#[tactic(auto, using(crate::proofs::NumberLaws::at_zero, crate::proofs::NumberLaws::at_lone))]
 pub fn read_number(s: &[u8], at: usize) -> Read
     ensures { read_shown result ≡ read_number s.now at }
 {
