@@ -1,6 +1,7 @@
 -- `deal`'s answer: when it deals and when it refuses, and that its promise settles it.
 use Prim.Native.Nat.{ℕ, zero, suc, ◌<◌, ◌≤◌}
 use mathlib.Core.Path.{◌≡◌, refl, sym, ap, ◌∙◌}
+use mathlib.Core.Logic.{◌⊎◌, inl, inr, ⊎_elim}
 use mathlib.Core.List.{List, [], ◌∷◌, map}
 use mathlib.Core.Bool.{Bool, true, false, false≢true, ◌&&◌}
 use native.Mathlib.Nat.{le_of_suc-le-suc}
@@ -12,6 +13,7 @@ use Rattle.deal.specs.declared.Dealing.{Dealing}
 use Rattle.deal.specs.declared.Dealing.TheVariants.{Dealt, TooLong, OtherRoom, NoGroup}
 use Rattle.deal.specs.Interleaving.{interleave, order, Grouped}
 use Rattle.deal.specs.Answer.{dealing_number, grouped, deal_answer, deal_out}
+use Rattle.deal.proofs.Lists.{lt-or-ge}
 use Rattle.deal.proofs.Laws.{by_order}
 
 -- the test says what `Grouped` says
@@ -36,6 +38,10 @@ grouped-all (g ∷ gs) e = go (nat_lt g 8) refl e (grouped-all gs)
     go true t e rest zero l = ltb-true g 8 t
     go true t e rest (suc i) l = rest e i (le_of_suc-le-suc l)
     go false t e rest i l = absurd (false≢true e)
+
+-- one group of the list, for a test of any form: it is one of the eight, or the test fails
+pub group_small : (gs : List ℕ) (i : ℕ) → i < length gs → (get_or gs i 0 < 8) ⊎ (grouped gs ≡ false)
+group_small gs i l = ⊎_elim inl (λ b. inr (grouped-no gs i l b)) (lt-or-ge (get_or gs i 0) 8)
 
 -- each refusal, with the room as it was
 pub too_long : (gs out : List ℕ) → 272 < length gs → (1 ≡ deal_answer gs (length out)) × (out ≡ deal_out gs out)

@@ -20,6 +20,7 @@ pub enum Dealing {
 }
 
 // Puts each position into the queue of its group: queue g is at g * 272, and counts[g] says how many it holds. False at a group above 7.
+#[tactic(auto, using(crate::proofs::Answers::group_small))]
 fn fill(groups: &[u8], queues: &mut [u16; 2176], counts: &mut [usize; 8]) -> bool
     requires { (length groups.now ≤ 272) × (counts.old ≡ replicate 8 0) × (length queues.old ≡ 2176) }
     ensures tested { result ≡ grouped groups.now }

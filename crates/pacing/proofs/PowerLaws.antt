@@ -3,7 +3,9 @@
 --     step, full, done        the loop of `power`: one turn, a turn that passes the cap, the end
 --     fits                    a product of two numbers of 32 bits fits 64
 --     nothing, within, beyond the product: by 0, below the cap, above it
+--     power_of_one, power_of_many, product_within, product_beyond     what `power` and `product` return, of the definitions
 use Rattle.std.proofs.Common.{◌≡◌, ℕ, zero, suc, ◌-◌, ◌*◌, ◌/◌, ◌^◌, ◌<◌, ◌≤◌, min, max, sym, refl, ◌∙◌, lt_of_le_of_lt, le_of_lt, mul_assoc, div-lt_iff_lt-mul, mul-le-mul_left, mul-lt-mul_of_pos_right, mul-zero, le-div_iff_mul-le, mul-one, arith, pow_pos, pow_mono, w64, Fits}
+use Rattle.pacing.specs.Pacing.{power_of, product_of}
 use native.Mathlib.Nat.{one-le-pow, pow-le-pow_left, pow-zero, pow-succ', min-eq_left, min-eq_right}
 
 one-pow : (e : ℕ) → 1 ^ e ≡ 1
@@ -55,3 +57,20 @@ within cap d g n h = (le-div_iff_mul-le (positive n)).0 h
 
 pub beyond : (cap d g : ℕ) → (g ≡ 0 → ⊥) → cap / g < d → cap ≡ min cap (d * g)
 beyond cap d g n h = sym (min-eq_left (le_of_lt ((div-lt_iff_lt-mul (positive n)).0 h)))
+
+-- the cases of both definitions, over any test that says as much
+pub power_of_one : (m e : ℕ) → m ≤ 1 → power_of m e ≡ 1
+unfolding power_of
+power_of_one m e l = sym (one_power _ m e (omega arith) l)
+
+pub power_of_many : (m e : ℕ) → 1 < m → 32 ≤ e → power_of m e ≡ 2 ^ 32 - 1
+unfolding power_of
+power_of_many m e h l = sym (past-cap m e h l)
+
+pub product_within : (d g : ℕ) → 0 < g → d ≤ (2 ^ 64 - 1) / g → product_of d g ≡ d * g
+unfolding product_of
+product_within d g h l = min-eq_right (within _ d g (λ e. omega arith) l)
+
+pub product_beyond : (d g : ℕ) → 0 < g → (2 ^ 64 - 1) / g < d → product_of d g ≡ 2 ^ 64 - 1
+unfolding product_of
+product_beyond d g h l = sym (beyond _ d g (λ e. omega arith) l)

@@ -3,6 +3,7 @@ ghost use Rattle.std.specs.Prelude.{◌≡◌};
 ghost use Rattle.pacing.specs.Pacing.{power_of, factor_of, product_of, delay_of};
 
 // m to the n, at most 2^32-1, where 0 counts as 1. At most 31 turns: from 2 on, the 32nd power is past the cap.
+#[tactic(auto, unfolding(crate::specs::Pacing::power_of), using(crate::proofs::PowerLaws::power_of_one, crate::proofs::PowerLaws::power_of_many))]
 fn power(m: u32, n: u64) -> u32
     ensures { result ≡ power_of m n }
 {
@@ -33,6 +34,7 @@ pub fn factor(multiplier: u32, in_progress: u64) -> u32
 }
 
 // The delay times the factor, at most 2^64-1.
+#[tactic(auto, unfolding(crate::specs::Pacing::product_of), using(crate::proofs::PowerLaws::product_within, crate::proofs::PowerLaws::product_beyond))]
 pub fn product(delay: u64, factor: u32) -> u64
     ensures { result ≡ product_of delay factor }
 {
