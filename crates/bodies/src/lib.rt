@@ -160,6 +160,7 @@ fn read_body(s: &[u8]) -> EventRead
 }
 
 // A body on a tape: what it says, or its first fault. Bytes after the last field are found last.
+#[tactic(auto, unfolding(crate::specs::Events::event_at))]
 pub fn read_event(s: &[u8]) -> EventRead
     ensures { event_shown result ≡ event_at s.now }
 {

@@ -507,6 +507,7 @@ fn read_fields(s: &[u8]) -> SetupRead
 }
 
 // A configuration body: its first fault, or what it says. A later edition reads the fields that it adds before the end is tested.
+#[tactic(auto, unfolding(crate::specs::Configuration::setup_at, crate::specs::Configuration::edition_at))]
 pub fn read_configuration(s: &[u8]) -> SetupRead
     ensures { setup_shown result ≡ setup_at s.now }
 {

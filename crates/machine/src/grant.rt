@@ -77,6 +77,7 @@ fn refreshed(q: Query, id: u64) -> Query
     }
 }
 
+#[tactic(auto, unfolding(crate::specs::Output::query_grant))]
 fn query_grant(count: usize, id: u64, kind: Kind, name: u8) -> Turn
     ensures { result ≡ query_grant count id kind name }
 {

@@ -217,6 +217,7 @@ fn read_target(s: &[u8], at: usize) -> TargetRead
     }
 }
 
+#[tactic(auto, unfolding(crate::specs::Reading::ech_at, crate::specs::Reading::sealed_by))]
 fn read_ech(s: &[u8], at: usize) -> EchRead
     ensures { ech_shown result ≡ ech_at s.now at }
 {

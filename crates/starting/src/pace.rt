@@ -59,6 +59,7 @@ pub fn resolution_left(timing: Timing, asks: Asks, now: u64) -> u64
 }
 
 // "the resolution delay is met at equality", by some answer
+#[tactic(auto, unfolding(crate::specs::Starting::elapsed))]
 fn is_resolution_met(timing: Timing, oldest: Moment, now: u64) -> bool
     ensures { result ≡ resolution_met timing.resolution oldest now }
 {
