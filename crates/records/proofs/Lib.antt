@@ -1,5 +1,6 @@
 -- Laws that several proofs, and the crates above, cite.
 pub mod Bytes
+pub mod Undots
 pub mod SameName
 pub mod Classes
 pub mod Walk
