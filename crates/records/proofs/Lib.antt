@@ -4,6 +4,7 @@ pub mod Undots
 pub mod SameName
 pub mod Classes
 pub mod Walk
+pub mod Seals
 pub mod Rooms
 pub mod Zeros
 pub mod First
