@@ -116,6 +116,7 @@ pub fn same_name(a: Name, b: Name) -> bool
 }
 
 // A name without one trailing dot.
+#[tactic(auto, using(crate::proofs::Undots::undotted_by_last))]
 fn undot(name: &[u8]) -> &[u8]
     ensures { result.now ≡ undotted name.now }
 {

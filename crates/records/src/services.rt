@@ -82,6 +82,7 @@ pub fn has_ech(e: EchPlace) -> bool
 }
 
 // Whether some service that is held has ECH.
+#[tactic(auto, using(crate::proofs::Seals::ech_more, crate::proofs::Seals::ech_none, crate::proofs::Seals::ech_end))]
 fn some_ech(s: Services) -> bool
     ensures { result ≡ some? (λ x. has_ech x.ech) (offered s) }
 {

@@ -31,6 +31,7 @@ pub struct Machine {
 }
 
 // Whether the HTTPS name has a prefix: the origin is a name, and its port isn't 443.
+#[tactic(auto, unfolding(crate::specs::State::is_prefixed))]
 fn is_prefixed(rules: Rules) -> bool
     ensures { result ≡ is_prefixed rules }
 {
