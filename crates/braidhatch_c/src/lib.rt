@@ -1,5 +1,5 @@
-// The exports of libbraidhatch.a. Each calls the function of its name in `braidhatch` and repeats its promise: a library of the language has
-// no archive, and a static library can't be used from another crate.
+// The exports of libbraidhatch.a: each calls the function of its name in `braidhatch` and repeats its promise. A crate is a library or an
+// archive, not both, and `braidhatch` is the library.
 #![tactic(auto)]
 
 ghost use Rattle.std.specs.Prelude.{◌≡◌};

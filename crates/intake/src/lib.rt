@@ -1,5 +1,5 @@
 // Tapes from standard input, one after the other, as differential/README.md says: each is the tape's length and the answer buffer's size, 8
-// bytes each, low byte first, then the tape. No contract can say what is read (docs/LOOSE.md, 1).
+// bytes each, low byte first, then the tape. Of standard input no contract can say what is read (docs/LOOSE.md, 1).
 #![tactic(auto)]
 
 ghost use Rattle.std.specs.Io.KnownBytes.{Consumes, IsAtEnd};
