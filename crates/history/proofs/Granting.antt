@@ -20,7 +20,6 @@ use Rattle.state.specs.State.{asked, tried, no_attempt, new_attempt, with_state,
 use Rattle.state.specs.declared.Machine.{Machine}
 use Rattle.state.specs.declared.attempts.State.{State}
 use Rattle.state.specs.declared.attempts.State.TheVariants as state
-use Rattle.state.specs.declared.attempts.Attempt.{Attempt}
 use Rattle.starting.specs.Surveys.{is_open_attempt, has_won_attempt, is_due, is_due_query}
 use Rattle.machine.specs.declared.wish.Wish.{Wish}
 use Rattle.machine.specs.declared.wish.Wish.TheVariants as wish

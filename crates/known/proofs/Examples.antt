@@ -1,5 +1,4 @@
 -- The examples hold of the definitions: both lists compute to the same.
-use mathlib.Core.Path.{refl}
 use Prim.Native.Nat.{max}
 use native.Mathlib.Nat.{pow-zero, add-sub_cancel_left}
 use Rattle.numbers.specs.Numbers.{below, groups, read_number, shortest, number_bytes}

@@ -1,6 +1,6 @@
 -- Document 01's starred examples, the resolution delay and the empty tape as one list: what the definitions give, beside what the document
 -- says.
-use Rattle.std.specs.Prelude.{ℕ, ◌+◌, ◌≡◌, Bool, cond, List, [], ◌∷◌, map, nat_eq}
+use Rattle.std.specs.Prelude.{ℕ, ◌+◌, ◌≡◌, cond, List, [], ◌∷◌, map, nat_eq}
 use Rattle.deal.specs.Interleaving.{group_of, interleave}
 use Rattle.numbers.specs.Got.{Got, got, refused}
 use Rattle.numbers.specs.Numbers.{read_number, number_bytes}

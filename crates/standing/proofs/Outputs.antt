@@ -13,7 +13,6 @@ use Rattle.records.specs.Lists.{some?}
 use Rattle.records.specs.Names.{same_at}
 use Rattle.records.specs.Queries.{no_query}
 use Rattle.records.specs.declared.queries.Kind.{Kind}
-use Rattle.records.specs.declared.queries.Query.{Query}
 use Rattle.records.specs.declared.queries.Refresh.{Refresh}
 use Rattle.records.specs.declared.queries.Refresh.TheVariants.{Idle, InFlight, Done}
 use Rattle.records.specs.declared.endpoints.Endpoint.{Endpoint}

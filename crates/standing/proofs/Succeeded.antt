@@ -10,7 +10,6 @@ use lib.Seq.{get_or-take}
 use Rattle.records.specs.Endpoints.{same_endpoint}
 use Rattle.records.specs.Names.{same_at}
 use Rattle.records.specs.declared.queries.Answer.{Answer}
-use Rattle.records.specs.declared.queries.Answer.TheVariants.{Failed}
 use Rattle.records.specs.declared.queries.Kind.{Kind}
 use Rattle.records.specs.declared.queries.Kind.TheVariants.{Https, Aaaa, A}
 use Rattle.records.specs.declared.queries.Query.{Query}
@@ -18,7 +17,6 @@ use Rattle.state.specs.State.{no_attempt, tried, is_open}
 use Rattle.state.specs.declared.Machine.{Machine}
 use Rattle.state.specs.declared.attempts.State.{State}
 use Rattle.state.specs.declared.attempts.State.TheVariants as state
-use Rattle.state.specs.declared.attempts.Attempt.{Attempt}
 use Rattle.state.specs.declared.attempts.Attempts.{Attempts}
 use Rattle.state.specs.declared.changes.InputChange.{InputChange}
 use Rattle.state.specs.declared.changes.Round.{Round}

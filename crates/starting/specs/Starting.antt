@@ -3,7 +3,6 @@ use Rattle.std.specs.Prelude.{ℕ, ◌-◌, Bool, true, false, cond, ◌&&◌, �
 use Rattle.pacing.specs.Pacing.{delay_of}
 use Rattle.records.specs.Lists.{some?}
 use Rattle.records.specs.Rules.{prefers_six, with_https, is_named}
-use Rattle.records.specs.declared.names.EchPlace.TheVariants.{At}
 use Rattle.records.specs.declared.rules.Rules.{Rules}
 use Rattle.records.specs.declared.rules.Timing.{Timing}
 use Rattle.records.specs.declared.rules.Mode.{Mode}

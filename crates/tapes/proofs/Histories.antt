@@ -21,7 +21,7 @@ use Rattle.history.specs.Claims.{AtMost95, Premise, By288, WaitsForSomething, Tr
 use Rattle.history.specs.Race.{Fed, unanswered, Condition, AllTried}
 use Rattle.history.specs.Demand.{Demand3}
 use Rattle.history.proofs.Ending.{demand-3}
-use Rattle.answers.specs.Answers.{Said, waiting, input}
+use Rattle.answers.specs.Answers.{Said, waiting}
 use Rattle.answers.specs.Outputs.{said_of}
 use Rattle.replay.specs.Replay.{step_by, step_of}
 use Rattle.tapes.specs.Events.{Given, Event}

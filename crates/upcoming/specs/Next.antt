@@ -8,7 +8,6 @@ use Rattle.records.specs.declared.references.Item.{Item}
 use Rattle.records.specs.declared.names.EchPlace.TheVariants.{At}
 use Rattle.records.specs.declared.rules.Rules.{Rules}
 use Rattle.records.specs.declared.rules.Alts.{Alts}
-use Rattle.records.specs.declared.queries.Kind.TheVariants.{A}
 use Rattle.records.specs.declared.queries.Queries.{Queries}
 use Rattle.records.specs.declared.queries.Answers.{Answers}
 use Rattle.records.specs.declared.services.Services.{Services}

@@ -2,7 +2,6 @@
 use Prim.Native.Nat.{◌-◌}
 use Rattle.records.specs.Classes.{same_class}
 use Rattle.listing.proofs.Whole.{Filled, Next}
-use borrow.Author.Rules.{rules}
 use Rattle.listing.proofs.endpoints_to_attempt.Given as goal
 
 abbrev pub invariant-loop-j : goal.invariant-loop-j

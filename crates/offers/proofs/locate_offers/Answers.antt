@@ -1,5 +1,4 @@
 use mathlib.Core.Path.{sym, ap, ◌∙◌}
-use Prim.Native.Nat.{◌-◌}
 use native.Mathlib.Omega.{arith}
 use Rattle.records.specs.Services.{no_service, no_services}
 use Rattle.parts.proofs.Filling.{fill_start, fill_more, fill_none, fill_end, fill-over}

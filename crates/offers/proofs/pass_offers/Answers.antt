@@ -1,5 +1,4 @@
 use mathlib.Core.Path.{sym, ap, ◌∙◌}
-use Prim.Native.Nat.{◌-◌}
 use native.Mathlib.Omega.{arith}
 use Rattle.offers.specs.Shown.{offer_shown}
 use Rattle.parts.proofs.Items.{pass-more, pass-none, pass-end}

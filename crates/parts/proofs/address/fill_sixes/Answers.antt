@@ -1,5 +1,4 @@
 use mathlib.Core.Path.{sym, ap, ◌∙◌}
-use Prim.Native.Nat.{◌-◌}
 use native.Mathlib.Omega.{arith}
 use Rattle.parts.specs.Shown.{addr_shown}
 use Rattle.parts.proofs.Filling.{fill_more, fill_none, fill_end, fill-over}

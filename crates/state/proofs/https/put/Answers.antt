@@ -1,4 +1,3 @@
-use Prim.Native.Nat.{◌-◌}
 use native.Mathlib.Omega.{arith}
 use Rattle.state.proofs.Putting.{putting-start, putting-more, putting-full}
 use Rattle.state.proofs.https.put.Goals as goal

@@ -5,7 +5,6 @@ use lib.ListN.{take, drop}
 use Rattle.listing.specs.Room.{tier_members}
 use Rattle.upcoming.specs.Alike.{alike_endpoints}
 use Rattle.upcoming.specs.Next.{first_next, item_new}
-use borrow.Author.Rules.{rules}
 use Rattle.upcoming.proofs.next.first_new.Given as goal
 
 abbrev pub invariant-loop-i : goal.invariant-loop-i

@@ -6,7 +6,6 @@ use Rattle.listing.specs.Listing.{tier_count}
 use Rattle.upcoming.specs.Alike.{alike_endpoints}
 use Rattle.upcoming.specs.Next.{next_endpoint}
 use Rattle.upcoming.proofs.Nexts.{tiers_from}
-use borrow.Author.Rules.{rules}
 use Rattle.upcoming.proofs.next.next_endpoint.Given as goal
 
 abbrev pub invariant-loop-k : goal.invariant-loop-k

@@ -1,4 +1,4 @@
-use Prim.Native.Nat.{◌+◌, ◌≤◌, ◌<◌, ◌-◌}
+use Prim.Native.Nat.{◌+◌, ◌≤◌, ◌<◌}
 use mathlib.Core.Path.{◌≡◌, sym, ◌∙◌}
 use lib.ListN.{length}
 use native.Mathlib.Omega.{arith}

@@ -3,7 +3,6 @@ use mathlib.Core.Path.{sym, ◌∙◌}
 use Rattle.records.specs.Classes.{same_class}
 use Rattle.upcoming.specs.Wanted.{or_wanted, targets_wanted, alts_wanted, wanted_by}
 use Rattle.upcoming.proofs.Wanting.{ip-here, ip-other, https-only}
-use borrow.Author.Rules.{rules}
 use Rattle.upcoming.proofs.wanted.next_query.Goals as goal
 
 pub returns-then-is_wanted : goal.returns-then-is_wanted
