@@ -8,7 +8,7 @@ ghost use Rattle.deal.specs.Queues.{Held, Active, members};
 // The longest listing: four services of 48 endpoints, 64 of alternative services and 16 of the origin.
 const LONGEST: usize = 272;
 
-#[derive(Clone, Copy)]
+#[derive(Clone, Copy, Debug, PartialEq, Eq)]
 pub enum Dealing {
     Dealt,
     // more than 272 groups
@@ -26,16 +26,14 @@ fn fill(groups: &[u8], queues: &mut [u16; 2176], counts: &mut [usize; 8]) -> boo
     ensures tested { result ≡ grouped groups.now }
     ensures filled { result ≡ true → Held groups.now (length groups.now) queues.new counts.new }
 {
-    let mut i = 0;
-    while i < groups.len() {
-        let g = groups[i] as usize;
+    for (i, &group) in groups.iter().enumerate() {
+        let g = group as usize;
         if 7 < g {
             return false;
         }
         let c = counts[g];
         queues[g * LONGEST + c] = i as u16;
         counts[g] = c + 1;
-        i += 1;
     }
     true
 }
@@ -46,13 +44,11 @@ fn first_round(counts: &[usize; 8], active: &mut [usize; 8]) -> usize
     ensures { Active counts.now 0 result active.new }
 {
     let mut m = 0;
-    let mut g = 0;
-    while g < 8 {
+    for g in 0..8 {
         if 0 < counts[g] {
             active[m] = g;
             m += 1;
         }
-        g += 1;
     }
     m
 }
@@ -73,15 +69,13 @@ fn deal_round(
     ensures length { length out.new ≡ length out.old }
 {
     let mut k = 0;
-    let mut t = 0;
-    while t < m {
+    for t in 0..m {
         let g = active[t];
         out[at + t] = queues[g * LONGEST + r];
         if r + 1 < counts[g] {
             active[k] = g;
             k += 1;
         }
-        t += 1;
     }
     k
 }

@@ -11,8 +11,10 @@ use native.Mathlib.Nat.{add-zero}
 use native.Mathlib.Numerals.{add-one}
 use native.Mathlib.Omega.{arith}
 use lib.ListN.{length, get_or, drop, set, length-append, drop_of_length-le}
-use lib.Seq.{sets, length-sets, drop-cons}
+use lib.Seq.{sets, length-sets, drop-cons, sets-eq}
+use borrow.Rule.Slice.PartMut.{put_mid}
 use lib.Dec.{leb as nat_le}
+use Rattle.std.proofs.lemmas.List.{drop-drop, append_assoc}
 use borrow.Author.Tests.{le-leb, lt-leb, leb-true, leb-false, not-true, not-false}
 use Rattle.numbers.specs.Put.{placed, refused, put_answer, put_bytes}
 use Rattle.numbers.specs.Refusals.{no_room}
@@ -33,6 +35,10 @@ module _ (out : List ℕ) (at : ℕ) (bs : List ℕ) where
   pub room : at + length bs ≤ length out → (placed (at + length bs) ≡ put_answer out at bs) × (sets out at bs ≡ put_bytes out at bs)
   unfolding put_answer put_bytes
   room h = (simp (le-leb (at + length bs) (length out) h), simp (le-leb (at + length bs) (length out) h))
+
+-- a part written at once is its bytes stored one by one
+pub part_stored : (out : List ℕ) (at k : ℕ) (bs ys : List ℕ) → ys ≡ bs → k ≡ length bs → at + length bs ≤ length out → put_mid at k out ys ≡ sets out at bs
+part_stored out at k bs ys e l h = rw (e, l, sets-eq bs out at h) (simp (drop-drop, append_assoc))
 
 pub store : (out : List ℕ) (at i b : ℕ) (rest target : List ℕ) → sets out (at + i) (b ∷ rest) ≡ target → sets (set out (at + i) b) (at + (i + 1)) rest ≡ target
 store out at i b rest target h = let e : at + (i + 1) ≡ suc (at + i) = omega arith in rw e h

@@ -2,17 +2,10 @@
 ghost use Rattle.std.specs.Prelude.{◌≡◌, ◌+◌, ◌*◌, ◌%◌, ◌^◌, ◌<◌, length};
 ghost use Rattle.numbers.specs.Numbers.{read_number, number_bytes};
 ghost use Rattle.numbers.specs.Put.{put_answer, put_bytes};
-ghost use Rattle.numbers.specs.Shown.{read_shown, wrote_shown};
+ghost use Rattle.numbers.specs.Shown.{shown, wrote_shown};
 
-use super::put::{Wrote, has_room};
+use super::put::has_room;
 use super::refusal::Refusal;
-
-#[derive(Clone, Copy)]
-pub enum Read {
-    // The value, and the place after its last byte.
-    Number(u64, usize),
-    Refused(Refusal),
-}
 
 // The number v with the low seven bits of b above its i groups.
 fn add_group(v: u64, b: u8, i: u32) -> u64
@@ -22,22 +15,22 @@ fn add_group(v: u64, b: u8, i: u32) -> u64
     v | (((b & 127) as u64) << (7 * i))
 }
 
-// The number that starts at the place at.
+// The number that starts at the place at, and the place after its last byte.
 #[tactic(auto, using(crate::proofs::NumberLaws::at_zero, crate::proofs::NumberLaws::at_lone))]
-pub fn read_number(s: &[u8], at: usize) -> Read
-    ensures { read_shown result ≡ read_number s.now at }
+pub fn read_number(s: &[u8], at: usize) -> Result<(u64, usize), Refusal>
+    ensures { shown result ≡ read_number s.now at }
 {
     let mut v: u64 = 0;
     let mut i: u32 = 0;
     let mut p = at;
     loop {
         if s.len() <= p {
-            return Read::Refused(Refusal::Cut);
+            return Err(Refusal::Cut);
         }
         let b = s[p];
         if i == 9 {
             if 1 < b {
-                return Read::Refused(Refusal::BadNumber);
+                return Err(Refusal::BadNumber);
             }
         }
         v = add_group(v, b, i);
@@ -45,10 +38,10 @@ pub fn read_number(s: &[u8], at: usize) -> Read
         if b < 128 {
             if b == 0 {
                 if 0 < i {
-                    return Read::Refused(Refusal::BadNumber);
+                    return Err(Refusal::BadNumber);
                 }
             }
-            return Read::Number(v, p);
+            return Ok((v, p));
         }
         i += 1;
     }
@@ -74,14 +67,14 @@ pub fn number_len(n: u64) -> usize
     i + 1
 }
 
-// Writes n from the place at on, or nothing where it does not fit.
-pub fn write_number(out: &mut [u8], at: usize, n: u64) -> Wrote
+// Writes n from the place at on, or nothing where it does not fit; the place after the last byte.
+pub fn write_number(out: &mut [u8], at: usize, n: u64) -> Result<usize, Refusal>
     ensures answer { wrote_shown result ≡ put_answer out.old at (number_bytes n) }
     ensures bytes { out.new ≡ put_bytes out.old at (number_bytes n) }
 {
     let need = number_len(n);
     if !has_room(out.len(), at, need) {
-        return Wrote::Refused(Refusal::NoRoom);
+        return Err(Refusal::NoRoom);
     }
     let mut v = n;
     let mut i: usize = 0;
@@ -91,6 +84,5 @@ pub fn write_number(out: &mut [u8], at: usize, n: u64) -> Wrote
         i += 1;
     }
     out[at + i] = v as u8;
-    let next = at + need;
-    Wrote::Next(next)
+    Ok(at + need)
 }

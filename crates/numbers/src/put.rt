@@ -5,37 +5,23 @@ ghost use Rattle.numbers.specs.Shown.{wrote_shown};
 
 use super::refusal::Refusal;
 
-#[derive(Clone, Copy)]
-pub enum Wrote {
-    // The place after the last byte.
-    Next(usize),
-    Refused(Refusal),
-}
-
 // Whether a buffer of len bytes has room for need bytes from the place at on.
 pub fn has_room(len: usize, at: usize, need: usize) -> bool
     ensures { result ≡ nat_le (at + need) len }
 {
-    if len < at {
-        return false;
-    }
-    need <= len - at
+    at <= len && need <= len - at
 }
 
-// Writes the bytes from the place at on, or nothing where they do not fit.
-pub fn put_bytes(out: &mut [u8], at: usize, bytes: &[u8]) -> Wrote
+// Writes the bytes from the place at on, or nothing where they do not fit; the place after the last byte.
+#[tactic(auto, using(crate::proofs::PutLaws::part_stored), unfolding(crate::specs::Put::put_answer, crate::specs::Put::put_bytes))]
+pub fn put_bytes(out: &mut [u8], at: usize, bytes: &[u8]) -> Result<usize, Refusal>
     ensures answer { wrote_shown result ≡ put_answer out.old at bytes.now }
     ensures bytes { out.new ≡ put_bytes out.old at bytes.now }
 {
-    let need = bytes.len();
-    if !has_room(out.len(), at, need) {
-        return Wrote::Refused(Refusal::NoRoom);
+    if !has_room(out.len(), at, bytes.len()) {
+        return Err(Refusal::NoRoom);
     }
-    let mut i: usize = 0;
-    while i < bytes.len() {
-        out[at + i] = bytes[i];
-        i += 1;
-    }
-    let next = at + need;
-    Wrote::Next(next)
+    let end = at + bytes.len();
+    out[at..end].copy_from_slice(bytes);
+    Ok(end)
 }

@@ -13,10 +13,11 @@ use borrow.Author.Tests.{le-leb, lt-leb}
 use Rattle.records.specs.Lists.{padded}
 use Rattle.parts.specs.Reading.{Reading, read, fault, next}
 use Rattle.parts.specs.Items.{items, found, listed}
+use Rattle.parts.specs.Filling.{stored}
 use Rattle.parts.specs.declared.address.Items.{Items}
 use Rattle.parts.proofs.Items.{items_more, items-none, items-length}
 
-drop-zeros : {A : Type 0} (z : A) (k n : ℕ) → drop k (replicate n z) ≡ replicate (n - k) z
+pub drop-zeros : {A : Type 0} (z : A) (k n : ℕ) → drop k (replicate n z) ≡ replicate (n - k) z
 drop-zeros z zero n = let e : n - 0 ≡ n = omega arith in rw e
 drop-zeros z (suc k) zero = let e : 0 - suc k ≡ 0 = omega arith in rw e
 drop-zeros z (suc k) (suc n) = let e : suc n - suc k ≡ n - k = omega arith in rw e (drop-zeros z k n)
@@ -30,52 +31,46 @@ sets-padded z n l h =
     ∙ ap (λ r. l ++ r) (drop-zeros z (length l) n)
 
 module _ {A B : Type 0} (g : A → B) where
-  -- what is read, stored from place i on
-  abbrev pub stored : List B → ℕ → Reading (List A) → Reading (List B)
-  stored out i r = next r (λ l end. read (sets out i (map g l)) end)
-
-  stored-tail : (out : List B) (i : ℕ) (a : A) (r : Reading (List A)) → stored out i (next r (λ l end. read (a ∷ l) end)) ≡ stored (set out i (g a)) (i + 1) r
+  stored-tail : (out : List B) (i : ℕ) (a : A) (r : Reading (List A)) → stored g out i (next r (λ l end. read (a ∷ l) end)) ≡ stored g (set out i (g a)) (i + 1) r
   stored-tail out i a (read l end) = rw add-one
   stored-tail out i a (fault n p) = refl
 
-  module _ (f : ℕ → Reading A) (n : ℕ) (out : List B) (i p : ℕ) (w : Reading (List B)) (h : stored out i (items f (n - i) p) ≡ w) where
-    pub fill_more : i < n → {a : A} {q : ℕ} → read a q ≡ f p → stored (set out i (g a)) (i + 1) (items f (n - (i + 1)) q) ≡ w
+  module _ (f : ℕ → Reading A) (n : ℕ) (out : List B) (i p : ℕ) (w : Reading (List B)) (h : stored g out i (items f (n - i) p) ≡ w) where
+    pub fill_more : i < n → {a : A} {q : ℕ} → read a q ≡ f p → stored g (set out i (g a)) (i + 1) (items f (n - (i + 1)) q) ≡ w
     fill_more l {a} {q} e =
         let k : n - i ≡ suc (n - (i + 1)) = omega arith in
-        sym (stored-tail out i a (items f (n - (i + 1)) q)) ∙ ap (stored out i) (sym (items_more f (n - (i + 1)) p e)) ∙ (rw k at h)
+        sym (stored-tail out i a (items f (n - (i + 1)) q)) ∙ ap (stored g out i) (sym (items_more f (n - (i + 1)) p e)) ∙ (rw k at h)
 
-  module _ (f : ℕ → Reading A) where
-    pub fill_start : (n first : ℕ) (out : List B) → stored out 0 (items f (n - 0) first) ≡ stored out 0 (items f n first)
-    fill_start n first out = let e : n - 0 ≡ n = omega arith in rw e
+    pub fill_fault : i < n → (x y : ℕ) → fault x y ≡ f p → fault x y ≡ w
+    fill_fault l x y e =
+        let k : n - i ≡ suc (n - (i + 1)) = omega arith in
+        ap (stored g out i) (sym (items-none f (n - (i + 1)) p x y e)) ∙ (rw k at h)
 
-    module _ (l : Items) (m : ℕ) (few : l.count ≤ m) (z : B) (i p : ℕ) (out : List B)
-        (h : stored out i (items f (l.count - i) p) ≡ stored (replicate m z) 0 (items f l.count l.first)) where
-      none_found : (x y : ℕ) → fault x y ≡ stored (replicate m z) 0 (items f l.count l.first) → (r : Reading (List A)) → items f l.count l.first ≡ r → found r ≡ []
-      none_found x y u (read t end) g = let v = u ∙ ap (stored (replicate m z) 0) g in absurd (let y : ◌≡◌ {A = ℕ} 0 1 = cc in omega arith)
-      none_found x y u (fault n q) g = refl
+    pub fill_done : n ≤ i → read out p ≡ w
+    unfolding items
+    fill_done l = let k : n - i ≡ 0 = omega arith in (rw k at h)
 
-      pub fill_none : i < l.count → (x y : ℕ) → fault x y ≡ f p → listed m f l ≡ []
-      unfolding listed
-      fill_none b x y e =
-          let k : l.count - i ≡ suc (l.count - (i + 1)) = omega arith in
-          let u : fault x y ≡ stored (replicate m z) 0 (items f l.count l.first) = ap (stored out i) (sym (items-none f (l.count - (i + 1)) p x y e)) ∙ (rw k at h) in
-          rw (le-leb l.count m few) (none_found x y u (items f l.count l.first) refl)
+  module _ (f : ℕ → Reading A) (l : Items) (m : ℕ) (few : l.count ≤ m) (z : B) where
+    none_found : {x y : ℕ} → fault x y ≡ stored g (replicate m z) 0 (items f l.count l.first) → (r : Reading (List A)) → items f l.count l.first ≡ r → found r ≡ []
+    none_found u (read t end) w = let v = u ∙ ap (stored g (replicate m z) 0) w in absurd (let y : ◌≡◌ {A = ℕ} 0 1 = cc in omega arith)
+    none_found u (fault n q) w = refl
 
-      all_found : read out p ≡ stored (replicate m z) 0 (items f l.count l.first) → (r : Reading (List A)) → items f l.count l.first ≡ r
-          → (l.count ≡ length (found r)) × (out ≡ padded m z (map g (found r)))
-      all_found u (read t end) e =
-          let long : length t ≡ l.count = items-length f l.count l.first t end e in
-          let v = u ∙ ap (stored (replicate m z) 0) e in
-          let y : out ≡ sets (replicate m z) 0 (map g t) = cc in
-          (sym long, y ∙ sets-padded z m (map g t) (rw length-map (omega (arith, long))))
-      all_found u (fault n q) e = let v = u ∙ ap (stored (replicate m z) 0) e in absurd (let y : ◌≡◌ {A = ℕ} 0 1 = cc in omega arith)
+    pub fill_none : {x y : ℕ} → fault x y ≡ stored g (replicate m z) 0 (items f l.count l.first) → listed m f l ≡ []
+    unfolding listed
+    fill_none u = rw (le-leb l.count m few) (none_found u (items f l.count l.first) refl)
 
-      pub fill_end : l.count ≤ i → (l.count ≡ length (listed m f l)) × (out ≡ padded m z (map g (listed m f l)))
-      unfolding items listed
-      fill_end b =
-          let k : l.count - i ≡ 0 = omega arith in
-          let u : read out p ≡ stored (replicate m z) 0 (items f l.count l.first) = (rw k at h) in
-          rw (le-leb l.count m few) (all_found u (items f l.count l.first) refl)
+    all_found : {out : List B} {p : ℕ} → read out p ≡ stored g (replicate m z) 0 (items f l.count l.first) → (r : Reading (List A)) → items f l.count l.first ≡ r
+        → (l.count ≡ length (found r)) × (out ≡ padded m z (map g (found r)))
+    all_found {out} u (read t end) e =
+        let long : length t ≡ l.count = items-length f l.count l.first t end e in
+        let v = u ∙ ap (stored g (replicate m z) 0) e in
+        let y : out ≡ sets (replicate m z) 0 (map g t) = cc in
+        (sym long, y ∙ sets-padded z m (map g t) (rw length-map (omega (arith, long))))
+    all_found u (fault n q) e = let v = u ∙ ap (stored g (replicate m z) 0) e in absurd (let y : ◌≡◌ {A = ℕ} 0 1 = cc in omega arith)
+
+    pub fill_all : {out : List B} {p : ℕ} → read out p ≡ stored g (replicate m z) 0 (items f l.count l.first) → (l.count ≡ length (listed m f l)) × (out ≡ padded m z (map g (listed m f l)))
+    unfolding listed
+    fill_all u = rw (le-leb l.count m few) (all_found u (items f l.count l.first) refl)
 
 pub fill-over : {A : Type 0} (f : ℕ → Reading A) (m : ℕ) (l : Items) → m < l.count → listed m f l ≡ []
 unfolding listed

@@ -1,11 +1,14 @@
 // Addresses in bytes, alone and in a row.
-ghost use Rattle.std.specs.Prelude.{◌+◌, ◌≤◌, ◌<◌, ◌≡◌, length, get_or};
+ghost use Rattle.std.specs.Prelude.{ℕ, ◌+◌, ◌≤◌, ◌<◌, ◌≡◌, length, get_or};
 ghost use Rattle.parts.specs.Addresses.{word, long, four, six, scoped, address, addresses_in, no_fours, no_sixes, fours_in, sixes_in};
 ghost use Rattle.parts.specs.Items.{items, past, counted};
-ghost use Rattle.parts.specs.Shown.{addr_shown, passed_shown, items_shown};
+ghost use Rattle.parts.specs.Shown.{shown, passed_shown};
+ghost use Rattle.parts.specs.Reading.{read};
+ghost use Rattle.parts.specs.Filling.{stored, filled};
+ghost use Rattle.records.specs.declared.queries.Addr.{Addr};
 
-use numbers::field::{SpanRead, read_at_most, read_bytes};
-use numbers::number::Read;
+use super::reading::{Fault, Reading, field};
+use numbers::field::{read_at_most, read_bytes};
 use numbers::refusal::Refusal;
 use records::queries::{Addr, Addresses, no_addresses};
 use records::services::{Hint, no_hint};
@@ -18,32 +21,11 @@ pub enum Form {
     Scoped,
 }
 
-#[derive(Clone, Copy)]
-pub enum AddrRead {
-    // The address, and the place after it.
-    Address(Addr, usize),
-    // Why not, and the place of the field.
-    Refused(Refusal, usize),
-}
-
-// The place after some items, or what is wrong with one.
-#[derive(Clone, Copy)]
-pub enum Passed {
-    Next(usize),
-    Refused(Refusal, usize),
-}
-
 // Items in a row: how many, and where the first stands.
 #[derive(Clone, Copy)]
 pub struct Items {
     pub count: usize,
     pub first: usize,
-}
-
-#[derive(Clone, Copy)]
-pub enum ItemsRead {
-    Items(Items, usize),
-    Refused(Refusal, usize),
 }
 
 // Hints of a service.
@@ -67,6 +49,7 @@ fn byte_at(s: &[u8], p: usize) -> u32
 }
 
 // 4 bytes, the highest first.
+#[tactic(auto, unfolding(crate::specs::Addresses::word))]
 fn word_at(s: &[u8], p: usize) -> u32
     requires { p + 4 ≤ length s.now }
     ensures { result ≡ word s.now p }
@@ -78,6 +61,7 @@ fn word_at(s: &[u8], p: usize) -> u32
 }
 
 // 8 bytes, the highest first.
+#[tactic(auto, unfolding(crate::specs::Addresses::long))]
 fn long_at(s: &[u8], p: usize) -> u64
     requires { p + 8 ≤ length s.now }
     ensures { result ≡ long s.now p }
@@ -89,78 +73,51 @@ fn long_at(s: &[u8], p: usize) -> u64
 }
 
 // An IPv4 address.
-pub fn read_four(s: &[u8], at: usize) -> AddrRead
-    ensures { addr_shown result ≡ four s.now at }
+#[tactic(auto, unfolding(crate::specs::Addresses::four, numbers::specs::Fields::bytes_at))]
+pub fn read_four(s: &[u8], at: usize) -> Reading<Addr>
+    ensures { shown result ≡ four s.now at }
 {
-    let r = read_bytes(s, at, 4);
-    match r {
-        SpanRead::Refused(e) => AddrRead::Refused(e, at),
-        SpanRead::Bytes(_, end) => {
-            let x = word_at(s, at) as u64;
-            AddrRead::Address(
-                Addr {
-                    hi: 0,
-                    lo: x,
-                    scope: 0,
-                },
-                end,
-            )
-        }
-    }
+    let (_, end) = field(at, read_bytes(s, at, 4))?;
+    let lo = u64::from(word_at(s, at));
+    Ok((
+        Addr {
+            hi: 0,
+            lo,
+            scope: 0,
+        },
+        end,
+    ))
 }
 
 // An IPv6 address without scope.
-pub fn read_six(s: &[u8], at: usize) -> AddrRead
-    ensures { addr_shown result ≡ six s.now at }
+#[tactic(auto, unfolding(crate::specs::Addresses::six, numbers::specs::Fields::bytes_at))]
+pub fn read_six(s: &[u8], at: usize) -> Reading<Addr>
+    ensures { shown result ≡ six s.now at }
 {
-    let r = read_bytes(s, at, 16);
-    match r {
-        SpanRead::Refused(e) => AddrRead::Refused(e, at),
-        SpanRead::Bytes(_, end) => {
-            let h = long_at(s, at);
-            let q = at + 8;
-            let l = long_at(s, q);
-            AddrRead::Address(
-                Addr {
-                    hi: h,
-                    lo: l,
-                    scope: 0,
-                },
-                end,
-            )
-        }
-    }
+    let (_, end) = field(at, read_bytes(s, at, 16))?;
+    let hi = long_at(s, at);
+    let lo = long_at(s, at + 8);
+    Ok((Addr { hi, lo, scope: 0 }, end))
 }
 
 // An IPv6 address and its scope.
-fn read_scoped(s: &[u8], at: usize) -> AddrRead
-    ensures { addr_shown result ≡ scoped s.now at }
+#[tactic(auto, unfolding(crate::specs::Addresses::scoped, numbers::specs::Fields::at_most))]
+fn read_scoped(s: &[u8], at: usize) -> Reading<Addr>
+    ensures { shown result ≡ scoped s.now at }
 {
-    let r = read_six(s, at);
-    match r {
-        AddrRead::Refused(e, p) => AddrRead::Refused(e, p),
-        AddrRead::Address(a, next) => {
-            let n = read_at_most(s, next, 4294967295, Refusal::OutOfRange);
-            match n {
-                Read::Refused(e) => AddrRead::Refused(e, next),
-                Read::Number(v, end) => {
-                    let x = v as u32;
-                    AddrRead::Address(
-                        Addr {
-                            hi: a.hi,
-                            lo: a.lo,
-                            scope: x,
-                        },
-                        end,
-                    )
-                }
-            }
-        }
-    }
+    let (a, next) = read_six(s, at)?;
+    let (scope, end) = field(next, read_at_most(s, next, 4294967295, Refusal::OutOfRange))?;
+    Ok((
+        Addr {
+            scope: scope as u32,
+            ..a
+        },
+        end,
+    ))
 }
 
-fn read_address(form: Form, s: &[u8], at: usize) -> AddrRead
-    ensures { addr_shown result ≡ address form s.now at }
+fn read_address(form: Form, s: &[u8], at: usize) -> Reading<Addr>
+    ensures { shown result ≡ address form s.now at }
 {
     match form {
         Form::Four => read_four(s, at),
@@ -170,69 +127,62 @@ fn read_address(form: Form, s: &[u8], at: usize) -> AddrRead
 }
 
 // The place after n addresses.
-fn pass_addresses(form: Form, s: &[u8], at: usize, n: usize) -> Passed
+fn pass_addresses(form: Form, s: &[u8], at: usize, n: usize) -> Result<usize, Fault>
     ensures { passed_shown result ≡ past (items (address form s.now) n at) }
 {
     let mut p = at;
-    let mut i: usize = 0;
-    while i < n {
-        let r = read_address(form, s, p);
-        match r {
-            AddrRead::Refused(e, q) => {
-                return Passed::Refused(e, q);
-            }
-            AddrRead::Address(_, next) => {
-                p = next;
-                i += 1;
-            }
-        }
+    for _i in 0..n {
+        let (_, next) = read_address(form, s, p)?;
+        p = next;
     }
-    Passed::Next(p)
+    Ok(p)
 }
 
 // A count and so many addresses.
-pub fn read_addresses(form: Form, s: &[u8], at: usize, most: u64) -> ItemsRead
-    ensures { items_shown result ≡ counted most (address form s.now) s.now at }
+#[tactic(auto, unfolding(crate::specs::Items::counted))]
+pub fn read_addresses(form: Form, s: &[u8], at: usize, most: u64) -> Reading<Items>
+    ensures { shown result ≡ counted most (address form s.now) s.now at }
 {
-    let r = read_at_most(s, at, most, Refusal::TooMany);
-    match r {
-        Read::Refused(e) => ItemsRead::Refused(e, at),
-        Read::Number(v, first) => {
-            let count = v as usize;
-            let t = pass_addresses(form, s, first, count);
-            match t {
-                Passed::Refused(e, p) => ItemsRead::Refused(e, p),
-                Passed::Next(end) => ItemsRead::Items(Items { count, first }, end),
-            }
-        }
+    let (n, first) = field(at, read_at_most(s, at, most, Refusal::TooMany))?;
+    let count = n as usize;
+    let end = pass_addresses(form, s, first, count)?;
+    Ok((Items { count, first }, end))
+}
+
+// Reads the items of a row once more, and stores what is kept of each.
+fn fill<T: Copy, K: Fn(Addr) -> T>(
+    form: Form,
+    s: &[u8],
+    l: Items,
+    out: &mut [T],
+    keep: K,
+) -> Result<usize, Fault>
+    requires callable { (p : ℕ) (a : Addr) (q : ℕ) → read a q ≡ address form s.now p → K.pre keep a }
+    requires room { l.count ≤ length out.old }
+    ensures length { length out.new ≡ length out.old }
+    ensures stored { (g : Addr → T) → ((a : Addr) (x : T) → K.post keep a x → x ≡ g a) → filled result out.new ≡ stored g out.old 0 (items (address form s.now) l.count l.first) }
+{
+    let mut p = l.first;
+    for i in 0..l.count {
+        let (a, next) = read_address(form, s, p)?;
+        out[i] = keep(a);
+        p = next;
     }
+    Ok(p)
 }
 
 // The addresses of an answer, copied from where they stand.
 pub fn fill_addresses(form: Form, s: &[u8], l: Items) -> Addresses
     ensures { result ≡ addresses_in form s.now l }
 {
-    let n = l.count;
     let mut out = no_addresses();
-    if 8 < n {
+    if 8 < l.count {
         return out;
     }
-    let mut p = l.first;
-    let mut i: usize = 0;
-    while i < n {
-        let r = read_address(form, s, p);
-        match r {
-            AddrRead::Refused(_, _) => {
-                return no_addresses();
-            }
-            AddrRead::Address(a, next) => {
-                out.list[i] = a;
-                p = next;
-                i += 1;
-            }
-        }
+    match fill(form, s, l, &mut out.list, |a| a) {
+        Ok(_) => out,
+        Err(_) => no_addresses(),
     }
-    out
 }
 
 fn no_fours() -> Fours
@@ -258,56 +208,38 @@ fn no_sixes() -> Sixes
 pub fn fill_fours(s: &[u8], l: Items) -> Fours
     ensures { result ≡ fours_in s.now l }
 {
-    let n = l.count;
     let mut out = no_fours();
-    if 4 < n {
+    if 4 < l.count {
         return out;
     }
-    let mut p = l.first;
-    let mut i: usize = 0;
-    while i < n {
-        let r = read_four(s, p);
-        match r {
-            AddrRead::Refused(_, _) => {
-                return no_fours();
-            }
-            AddrRead::Address(a, next) => {
-                let x = a.lo as u32;
-                out.list[i] = x;
-                p = next;
-                i += 1;
-            }
-        }
+    match fill(Form::Four, s, l, &mut out.list, |a| a.lo as u32) {
+        Ok(_) => Fours {
+            count: l.count,
+            ..out
+        },
+        Err(_) => no_fours(),
     }
-    out.count = n;
-    out
 }
 
 // The IPv6 hints.
 pub fn fill_sixes(s: &[u8], l: Items) -> Sixes
     ensures { result ≡ sixes_in s.now l }
 {
-    let n = l.count;
     let mut out = no_sixes();
-    if 4 < n {
+    if 4 < l.count {
         return out;
     }
-    let mut p = l.first;
-    let mut i: usize = 0;
-    while i < n {
-        let r = read_six(s, p);
-        match r {
-            AddrRead::Refused(_, _) => {
-                return no_sixes();
-            }
-            AddrRead::Address(a, next) => {
-                let x = Hint { hi: a.hi, lo: a.lo };
-                out.list[i] = x;
-                p = next;
-                i += 1;
-            }
-        }
+    match fill(
+        Form::Six,
+        s,
+        l,
+        &mut out.list,
+        |a| Hint { hi: a.hi, lo: a.lo },
+    ) {
+        Ok(_) => Sixes {
+            count: l.count,
+            ..out
+        },
+        Err(_) => no_sixes(),
     }
-    out.count = n;
-    out
 }

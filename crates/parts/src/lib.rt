@@ -3,4 +3,5 @@
 // A first pass finds the first fault, or says where things stand; a second copies what stands there.
 pub mod address;
 pub mod field;
+pub mod reading;
 pub mod room;

@@ -4,6 +4,3 @@ use Rattle.deal.proofs.deal_round.Given as goal
 
 abbrev pub invariant-loop-t : goal.invariant-loop-t
 invariant-loop-t l = (l.t ≤ l.m) × Turn l.queues l.counts l.initial.active l.initial.out l.r l.at l.t l.k l.active l.out
-
-abbrev pub decreases-loop-t : goal.decreases-loop-t
-decreases-loop-t l = l.m - l.t

@@ -5,6 +5,3 @@ use Rattle.deal.proofs.fill.Given as goal
 
 abbrev pub invariant-loop-i : goal.invariant-loop-i
 invariant-loop-i l = Filled l.groups l.i l.queues l.counts
-
-abbrev pub decreases-loop-i : goal.decreases-loop-i
-decreases-loop-i l = length l.groups - l.i

@@ -4,6 +4,3 @@ use Rattle.deal.proofs.first_round.Given as goal
 
 abbrev pub invariant-loop-g : goal.invariant-loop-g
 invariant-loop-g l = Chosen l.counts l.active l.m l.g
-
-abbrev pub decreases-loop-g : goal.decreases-loop-g
-decreases-loop-g l = 8 - l.g
