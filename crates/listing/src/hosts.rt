@@ -31,15 +31,11 @@ pub struct HostTargets {
 fn service_by_name(r: Rules) -> bool
     ensures { result ≡ service_by_name r }
 {
-    let h = r.host;
-    let m = r.mode;
-    if is_named(h) {
-        return with_https(m);
-    }
-    false
+    is_named(r.host) && with_https(r.mode)
 }
 
 // The IPv6 and the IPv4 addresses held for a name.
+#[tactic(auto, unfolding(crate::specs::Held::held_targets))]
 fn held_targets(same: SameNames, queries: Queries, place: u8) -> HostTargets
     ensures { result ≡ held_targets (same_class same) queries place }
 {
@@ -91,12 +87,10 @@ fn one_target(s: Source) -> HostTargets
 fn one_if(on: bool, s: Source) -> HostTargets
     ensures { result ≡ cond on (one_target s) nothing }
 {
-    if on {
-        return one_target(s);
-    }
-    nothing_of()
+    if on { one_target(s) } else { nothing_of() }
 }
 
+#[tactic(auto, unfolding(crate::specs::Listing::service_held))]
 pub fn service_held(r: Rules, queries: Queries, same: SameNames, s: Service) -> HostTargets
     ensures { result ≡ service_held r queries (same_class same) s }
 {
@@ -110,12 +104,10 @@ pub fn service_held(r: Rules, queries: Queries, same: SameNames, s: Service) -> 
 fn hints_of(on: bool, n: usize) -> u8
     ensures { result ≡ cond on (min n 4) 0 }
 {
-    if on {
-        return at_most(n, 4);
-    }
-    0
+    if on { at_most(n, 4) } else { 0 }
 }
 
+#[tactic(auto, unfolding(crate::specs::Listing::service_hints))]
 pub fn service_hints(r: Rules, i: u8, s: Service) -> HostTargets
     ensures { result ≡ service_hints r i s }
 {
@@ -137,6 +129,7 @@ pub fn service_hints(r: Rules, i: u8, s: Service) -> HostTargets
     }
 }
 
+#[tactic(auto, unfolding(crate::specs::Listing::origin_targets))]
 pub fn origin_targets(r: Rules, queries: Queries, same: SameNames) -> HostTargets
     ensures { result ≡ origin_targets r queries (same_class same) }
 {

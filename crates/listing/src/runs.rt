@@ -70,25 +70,17 @@ fn port_or(origin: u16, p: Port) -> u16
 fn ech_if(on: bool, e: EchPlace) -> EchPlace
     ensures { result ≡ ech_if on e }
 {
-    if on {
-        return e;
-    }
-    EchPlace::Without
+    if on { e } else { EchPlace::Without }
 }
 
 // Targets at a rank; none where it is off.
 fn run_of(on: bool, x: Targets, port: u16, ech: EchPlace, rank: Rank) -> Run
     ensures { result ≡ run (targets_if on x) port rank ech }
 {
-    let s = x.source;
-    let mut n = 0;
-    if on {
-        n = x.count;
-    }
     Run {
-        source: s,
+        source: x.source,
         port,
-        count: n,
+        count: if on { x.count } else { 0 },
         rank,
         ech,
     }
@@ -97,11 +89,9 @@ fn run_of(on: bool, x: Targets, port: u16, ech: EchPlace, rank: Rank) -> Run
 fn host_runs(on: bool, x: HostTargets, port: u16, ech: EchPlace, rank: Rank) -> HostRuns
     ensures { result ≡ host_runs_if on x port ech rank }
 {
-    let a = x.first;
-    let b = x.second;
     HostRuns {
-        first: run_of(on, a, port, ech, rank),
-        second: run_of(on, b, port, ech, rank),
+        first: run_of(on, x.first, port, ech, rank),
+        second: run_of(on, x.second, port, ech, rank),
     }
 }
 
@@ -114,17 +104,10 @@ fn no_host_runs() -> HostRuns
 fn runs_of(a: HostRuns, b: HostRuns, c: HostRuns, d: HostRuns, e: HostRuns) -> Runs
     ensures { result.list ≡ a.first ∷ a.second ∷ b.first ∷ b.second ∷ c.first ∷ c.second ∷ d.first ∷ d.second ∷ e.first ∷ e.second ∷ [] }
 {
-    let r0 = a.first;
-    let r1 = a.second;
-    let r2 = b.first;
-    let r3 = b.second;
-    let r4 = c.first;
-    let r5 = c.second;
-    let r6 = d.first;
-    let r7 = d.second;
-    let r8 = e.first;
-    let r9 = e.second;
-    let list = [r0, r1, r2, r3, r4, r5, r6, r7, r8, r9];
+    let list = [
+        a.first, a.second, b.first, b.second, c.first, c.second, d.first, d.second, e.first,
+        e.second,
+    ];
     Runs { list }
 }
 
@@ -223,41 +206,33 @@ fn family(prefer6: bool, s: Source) -> u8
     ensures { (result ≡ family_of prefer6 s) × (result < 2) }
 {
     match s {
-        Source::Held6(_) => { if prefer6 { 0 } else { 1 } }
-        Source::Held4(_) => { if prefer6 { 1 } else { 0 } }
-        Source::Hint6(_) => { if prefer6 { 0 } else { 1 } }
-        Source::Hint4(_) => { if prefer6 { 1 } else { 0 } }
-        Source::Literal6(_) => { if prefer6 { 0 } else { 1 } }
-        Source::Literal4(_) => { if prefer6 { 1 } else { 0 } }
+        Source::Held6(_) | Source::Hint6(_) | Source::Literal6(_) => { if prefer6 { 0 } else { 1 } }
+        Source::Held4(_) | Source::Hint4(_) | Source::Literal4(_) => { if prefer6 { 1 } else { 0 } }
         Source::Name(_) => 0,
     }
 }
 
 // The group in which a listed endpoint is dealt.
+#[tactic(auto, unfolding(deal::specs::Interleaving::group_of))]
 fn group_of(prefer6: bool, i: Item) -> u8
     ensures { result ≡ group_of prefer6 i }
 {
-    let s = i.source;
-    let k = i.rank;
-    let f = family(prefer6, s);
-    rank_number(k) * 2 + f
+    rank_number(i.rank) * 2 + family(prefer6, i.source)
 }
 
 fn item_of(r: Run, p: u8) -> Item
     ensures { result ≡ item_of r p }
 {
-    let s = r.source;
-    let k = r.rank;
-    let e = r.ech;
     Item {
-        source: s,
+        source: r.source,
         port: r.port,
         place: p,
-        rank: k,
-        ech: e,
+        rank: r.rank,
+        ech: r.ech,
     }
 }
 
+#[tactic(auto, unfolding(crate::specs::Room::grouped, records::specs::Lists::padded))]
 fn no_undealt() -> Undealt
     ensures { result ≡ grouped false [] }
 {
@@ -275,21 +250,14 @@ fn tier_of(runs: Runs, prefer6: bool) -> Undealt
     ensures { result ≡ grouped prefer6 (tier_items runs.list) }
 {
     let mut t = no_undealt();
-    let mut r: usize = 0;
-    let mut p: u8 = 0;
     let mut at: usize = 0;
-    while r < 10 {
-        let run = runs.list[r];
-        if run.count <= p {
-            r += 1;
-            p = 0;
-            continue;
+    for &run in &runs.list {
+        for p in 0..run.count {
+            let x = item_of(run, p);
+            t.groups[at] = group_of(prefer6, x);
+            t.list[at] = x;
+            at += 1;
         }
-        let x = item_of(run, p);
-        t.groups[at] = group_of(prefer6, x);
-        t.list[at] = x;
-        at += 1;
-        p += 1;
     }
     t.count = at;
     t
@@ -305,6 +273,7 @@ fn dealt_order(groups: [u8; 80], n: usize) -> DealtOrder
     DealtOrder { list: out }
 }
 
+#[tactic(auto, unfolding(crate::specs::Room::tiered, records::specs::Lists::padded))]
 pub fn no_tier() -> Tier
     ensures { result ≡ tiered [] }
 {
@@ -321,13 +290,11 @@ fn gathered(t: Undealt, o: DealtOrder) -> Tier
     ensures { result ≡ tiered (map (λ i. get_or t.list i no_item) (take t.count o.list)) }
 {
     let n = t.count;
+    let dealt = &o.list[..n];
     let mut out = no_tier();
-    let mut k: usize = 0;
-    while k < n {
-        let j = o.list[k] as usize;
-        let x = t.list[j];
-        out.list[k] = x;
-        k += 1;
+    for (k, &i) in dealt.iter().enumerate() {
+        let j = i as usize;
+        out.list[k] = t.list[j];
     }
     out.count = n;
     out
@@ -346,6 +313,7 @@ fn dealt_tier(runs: Runs, prefer6: bool) -> Tier
 }
 
 // The tier of the service at place i of the answer.
+#[tactic(auto, unfolding(crate::specs::Listing::dealt), using(crate::proofs::Bounds::service_le))]
 pub fn service_tier(r: Rules, queries: Queries, same: SameNames, i: u8, s: Service) -> Tier
     ensures { result ≡ tiered (dealt r (tier_items (service_runs r queries (same_class same) i s))) }
 {
@@ -354,6 +322,7 @@ pub fn service_tier(r: Rules, queries: Queries, same: SameNames, i: u8, s: Servi
 }
 
 // The last tier: alternative services and origin.
+#[tactic(auto, unfolding(crate::specs::Listing::dealt), using(crate::proofs::Bounds::last_le))]
 pub fn last_tier(r: Rules, alts: Alts, queries: Queries, same: SameNames) -> Tier
     ensures { result ≡ tiered (dealt r (tier_items (last_runs r alts queries (same_class same)))) }
 {
