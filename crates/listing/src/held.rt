@@ -3,8 +3,9 @@ ghost use Rattle.std.specs.Prelude.{min, ◌≡◌};
 ghost use Rattle.records.specs.Classes.{same_class};
 ghost use Rattle.listing.specs.Held.{is_for, held_count, held_at};
 
-use records::names::{SameNames, same_class};
-use records::queries::{Answer, Kind, Queries, is_answered, kind_number};
+use super::sources::Sources;
+use records::names::same_class;
+use records::queries::{Answer, Kind, is_answered, kind_number};
 
 // A query record and how many addresses it holds.
 #[derive(Clone, Copy)]
@@ -36,22 +37,24 @@ fn held_count(a: Answer) -> u8
     }
 }
 
-// The first answered record of a type and name, and how many addresses it holds.
-pub fn held_at(same: SameNames, queries: Queries, kind: Kind, place: u8) -> Holding
-    ensures { result ≡ held_at (same_class same) queries kind place }
-{
-    let n = queries.count.min(16);
-    let asked = &queries.list[..n];
-    for (i, q) in asked.iter().enumerate() {
-        let a = q.answer;
-        if is_for(kind, q.kind, a) {
-            if same_class(same, q.name, place) {
-                return Holding {
-                    query: i as u8,
-                    count: held_count(a),
-                };
+impl Sources {
+    // The first answered record of a type and name, and how many addresses it holds.
+    pub fn held_at(&self, kind: Kind, place: u8) -> Holding
+        ensures { result ≡ held_at (same_class self.now.same) self.now.queries kind place }
+    {
+        let n = self.queries.count.min(16);
+        let asked = &self.queries.list[..n];
+        for (i, q) in asked.iter().enumerate() {
+            let a = q.answer;
+            if is_for(kind, q.kind, a) {
+                if same_class(self.same, q.name, place) {
+                    return Holding {
+                        query: i as u8,
+                        count: held_count(a),
+                    };
+                }
             }
         }
+        Holding { query: 0, count: 0 }
     }
-    Holding { query: 0, count: 0 }
 }

@@ -10,15 +10,13 @@ ghost use Rattle.listing.specs.Listing.{port_or, ech_if, nothing, service_runs, 
 ghost use Rattle.listing.specs.Room.{grouped, tiered, targets_if, host_runs_if, both_runs, at_ranks, alt_runs_at};
 
 use super::Tier;
-use super::hosts::{
-    HostTargets, Targets, alt_targets, nothing_of, origin_targets, service_held, service_hints,
-};
+use super::hosts::{HostTargets, Targets, nothing_of, service_hints};
+use super::sources::Sources;
 use super::versions::{Ranks, combine, enabled_of, from_http_versions, is_enabled, rank_of};
 use records::endpoints::{Rank, rank_number};
-use records::names::{EchPlace, SameNames};
-use records::queries::Queries;
+use records::names::EchPlace;
 use records::references::{Item, Source, no_item};
-use records::rules::{Alts, Port, Rules, prefers_six};
+use records::rules::{Alts, Port, prefers_six};
 use records::services::Service;
 
 // Targets with all else that their endpoints have.
@@ -111,22 +109,6 @@ fn runs_of(a: HostRuns, b: HostRuns, c: HostRuns, d: HostRuns, e: HostRuns) -> R
     Runs { list }
 }
 
-// The runs of a service: for each rank the addresses held for its name, then its hints.
-fn service_runs(r: Rules, queries: Queries, same: SameNames, i: u8, s: Service) -> Runs
-    ensures { tier_items result.list ≡ tier_items (service_runs r queries (same_class same) i s) }
-{
-    let on = r.versions;
-    let v = s.versions;
-    let p = s.port;
-    let e = s.ech;
-    let ranks = from_http_versions(enabled_of(on, v));
-    let port = port_or(r.port, p);
-    let ech = ech_if(r.ech, e);
-    let held = service_held(r, queries, same, s);
-    let hints = service_hints(r, i, s);
-    at_ranks(held, hints, ranks, port, ech)
-}
-
 // What is held and what is hinted, at each of at most two ranks.
 fn at_ranks(held: HostTargets, hints: HostTargets, ranks: Ranks, port: u16, ech: EchPlace) -> Runs
     ensures { result.list ≡ at_ranks held hints ranks port ech }
@@ -141,64 +123,6 @@ fn at_ranks(held: HostTargets, hints: HostTargets, ranks: Ranks, port: u16, ech:
         host_runs(two, held, port, ech, k),
         host_runs(two, hints, port, ech, k),
         no_host_runs(),
-    )
-}
-
-// The runs of alternative service i, where there is one.
-fn alt_runs(r: Rules, queries: Queries, same: SameNames, alts: Alts, i: u8) -> HostRuns
-    requires { i < 4 }
-    ensures { tier_items (both_runs result) ≡ tier_items (alt_runs_at r queries (same_class same) alts i) }
-{
-    let n = alts.count;
-    let at = i as usize;
-    if n <= at {
-        return no_host_runs();
-    }
-    let a = alts.list[at];
-    let on = r.versions;
-    let h = a.host;
-    let p = a.port;
-    let v = a.version;
-    host_runs(
-        is_enabled(on, v),
-        alt_targets(r, queries, same, i + 1, h),
-        port_or(r.port, p),
-        EchPlace::Without,
-        rank_of(v),
-    )
-}
-
-// The runs of the origin.
-fn origin_runs(r: Rules, queries: Queries, same: SameNames) -> HostRuns
-    ensures { tier_items (both_runs result) ≡ tier_items (origin_runs r queries (same_class same)) }
-{
-    let v = r.versions;
-    let ranks = combine(v.h2, v.h1);
-    let k = ranks.first;
-    host_runs(
-        0 < ranks.count,
-        origin_targets(r, queries, same),
-        r.port,
-        EchPlace::Without,
-        k,
-    )
-}
-
-// The last tier: alternative services and origin.
-fn last_runs(r: Rules, alts: Alts, queries: Queries, same: SameNames) -> Runs
-    ensures { tier_items result.list ≡ tier_items (last_runs r alts queries (same_class same)) }
-{
-    // most configurations have none, and each call below copies what it reads
-    if alts.count == 0 {
-        let z = no_host_runs();
-        return runs_of(z, z, z, z, origin_runs(r, queries, same));
-    }
-    runs_of(
-        alt_runs(r, queries, same, alts, 0),
-        alt_runs(r, queries, same, alts, 1),
-        alt_runs(r, queries, same, alts, 2),
-        alt_runs(r, queries, same, alts, 3),
-        origin_runs(r, queries, same),
     )
 }
 
@@ -312,20 +236,81 @@ fn dealt_tier(runs: Runs, prefer6: bool) -> Tier
     gathered(t, o)
 }
 
-// The tier of the service at place i of the answer.
-#[tactic(auto, unfolding(crate::specs::Listing::dealt), using(crate::proofs::Bounds::service_le))]
-pub fn service_tier(r: Rules, queries: Queries, same: SameNames, i: u8, s: Service) -> Tier
-    ensures { result ≡ tiered (dealt r (tier_items (service_runs r queries (same_class same) i s))) }
-{
-    let f = r.preference;
-    dealt_tier(service_runs(r, queries, same, i, s), prefers_six(f))
-}
+impl Sources {
+    // The runs of a service: for each rank the addresses held for its name, then its hints.
+    fn service_runs(&self, i: u8, s: &Service) -> Runs
+        ensures { tier_items result.list ≡ tier_items (service_runs self.now.rules self.now.queries (same_class self.now.same) i s.now) }
+    {
+        let r = self.rules;
+        let ranks = from_http_versions(enabled_of(r.versions, s.versions));
+        let port = port_or(r.port, s.port);
+        let ech = ech_if(r.ech, s.ech);
+        let held = self.service_held(s);
+        let hints = service_hints(r, i, s);
+        at_ranks(held, hints, ranks, port, ech)
+    }
 
-// The last tier: alternative services and origin.
-#[tactic(auto, unfolding(crate::specs::Listing::dealt), using(crate::proofs::Bounds::last_le))]
-pub fn last_tier(r: Rules, alts: Alts, queries: Queries, same: SameNames) -> Tier
-    ensures { result ≡ tiered (dealt r (tier_items (last_runs r alts queries (same_class same)))) }
-{
-    let f = r.preference;
-    dealt_tier(last_runs(r, alts, queries, same), prefers_six(f))
+    // The runs of alternative service i, where there is one.
+    fn alt_runs(&self, alts: &Alts, i: u8) -> HostRuns
+        requires { i < 4 }
+        ensures { tier_items (both_runs result) ≡ tier_items (alt_runs_at self.now.rules self.now.queries (same_class self.now.same) alts.now i) }
+    {
+        let at = i as usize;
+        if alts.count <= at {
+            return no_host_runs();
+        }
+        let r = self.rules;
+        let a = alts.list[at];
+        host_runs(
+            is_enabled(r.versions, a.version),
+            self.alt_targets(i + 1, a.host),
+            port_or(r.port, a.port),
+            EchPlace::Without,
+            rank_of(a.version),
+        )
+    }
+
+    // The runs of the origin.
+    fn origin_runs(&self) -> HostRuns
+        ensures { tier_items (both_runs result) ≡ tier_items (origin_runs self.now.rules self.now.queries (same_class self.now.same)) }
+    {
+        let v = self.rules.versions;
+        let ranks = combine(v.h2, v.h1);
+        host_runs(
+            0 < ranks.count,
+            self.origin_targets(),
+            self.rules.port,
+            EchPlace::Without,
+            ranks.first,
+        )
+    }
+
+    // The runs of the last tier: alternative services and origin.
+    fn last_runs(&self, alts: Alts) -> Runs
+        ensures { tier_items result.list ≡ tier_items (last_runs self.now.rules alts self.now.queries (same_class self.now.same)) }
+    {
+        runs_of(
+            self.alt_runs(&alts, 0),
+            self.alt_runs(&alts, 1),
+            self.alt_runs(&alts, 2),
+            self.alt_runs(&alts, 3),
+            self.origin_runs(),
+        )
+    }
+
+    // The tier of the service at place i of the answer.
+    #[tactic(auto, unfolding(crate::specs::Listing::dealt), using(crate::proofs::Bounds::service_le))]
+    pub fn service_tier(&self, i: u8, s: &Service) -> Tier
+        ensures { result ≡ tiered (dealt self.now.rules (tier_items (service_runs self.now.rules self.now.queries (same_class self.now.same) i s.now))) }
+    {
+        dealt_tier(self.service_runs(i, s), prefers_six(self.rules.preference))
+    }
+
+    // The last tier: alternative services and origin.
+    #[tactic(auto, unfolding(crate::specs::Listing::dealt), using(crate::proofs::Bounds::last_le))]
+    pub fn last_tier(&self, alts: Alts) -> Tier
+        ensures { result ≡ tiered (dealt self.now.rules (tier_items (last_runs self.now.rules alts self.now.queries (same_class self.now.same)))) }
+    {
+        dealt_tier(self.last_runs(alts), prefers_six(self.rules.preference))
+    }
 }
