@@ -122,9 +122,9 @@ module _ (f : Rank → List Run) (m : ℕ) (few : (k : Rank) → length (tier_it
   two-ranks true b c = omega (arith, each_next f rank.H3 (combined b c), few rank.H3, one_rank b c)
   two-ranks false b c = omega (arith, one_rank b c)
 
-pub service-le : (r : Rules) (q : Queries) (n : Same) (i : ℕ) (s : Service) → length (tier_items (service_runs r q n i s)) ≤ 48
+pub service_le : (r : Rules) (q : Queries) (n : Same) (i : ℕ) (s : Service) → length (tier_items (service_runs r q n i s)) ≤ 48
 unfolding service_runs from_http_versions
-service-le r q n i s = let v = enabled r.versions s.versions in two-ranks (λ k. host_runs (service_held r q n s) (port_or r.port s.port) (ech_if r.ech s.ech) k ++ host_runs (service_hints r i s) (port_or r.port s.port) (ech_if r.ech s.ech) k) 24 both_runs v.h3 v.h2 v.h1
+service_le r q n i s = let v = enabled r.versions s.versions in two-ranks (λ k. host_runs (service_held r q n s) (port_or r.port s.port) (ech_if r.ech s.ech) k ++ host_runs (service_hints r i s) (port_or r.port s.port) (ech_if r.ech s.ech) k) 24 both_runs v.h3 v.h2 v.h1
   where
     both_runs : (k : Rank) → length (tier_items (host_runs (service_held r q n s) (port_or r.port s.port) (ech_if r.ech s.ech) k ++ host_runs (service_hints r i s) (port_or r.port s.port) (ech_if r.ech s.ech) k)) ≤ 24
     both_runs k =
@@ -150,8 +150,8 @@ alts-le r q n i (a ∷ l) =
     let e = ap length (items-append (alt_runs r q n i a) (alts_from r q n (i + 1) l)) ∙ length-append (tier_items (alt_runs r q n i a)) (tier_items (alts_from r q n (i + 1) l)) in
     omega (arith, e, alt-le r q n i a, alts-le r q n (i + 1) l)
 
-pub last-le : (r : Rules) (a : Alts) (q : Queries) (n : Same) → length a.list ≡ 4 → length (tier_items (last_runs r a q n)) ≤ 80
+pub last_le : (r : Rules) (a : Alts) (q : Queries) (n : Same) → length a.list ≡ 4 → length (tier_items (last_runs r a q n)) ≤ 80
 unfolding last_runs
-last-le r a q n four =
+last_le r a q n four =
     let e = ap length (items-append (alts_from r q n 0 (take a.count a.list)) (origin_runs r q n)) ∙ length-append (tier_items (alts_from r q n 0 (take a.count a.list))) (tier_items (origin_runs r q n)) in
     omega (arith, e, alts-le r q n 0 (take a.count a.list), length-take a.count a.list, origin-le r q n)

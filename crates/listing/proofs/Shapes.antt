@@ -101,11 +101,3 @@ last-five r a q n e =
     ap (λ l. tier_items (l ++ origin_runs r q n)) (alts-four r q n a e)
     ∙ ap tier_items (simp append_assoc)
     ∙ five (alt_runs_at r q n a 0) (alt_runs_at r q n a 1) (alt_runs_at r q n a 2) (alt_runs_at r q n a 3) (origin_runs r q n)
-
--- where there is no alternative service its runs are empty, as are the code's
-pub none_runs : (x : HostRuns) → x ≡ host_runs_if false nothing 0 Without rank.H3 → tier_items (both_runs x) ≡ tier_items []
-none_runs x e = ap (λ y. tier_items (both_runs y)) e ∙ runs-if false nothing 0 Without rank.H3
-
-pub alt-none : (r : Rules) (q : Queries) (n : Same) (a : Alts) (i : ℕ) → a.count ≡ 0 → tier_items (alt_runs_at r q n a i) ≡ tier_items []
-unfolding alt_runs_at
-alt-none r q n a i e = rw (e, le-ltb i 0 (omega arith))

@@ -1,13 +1,13 @@
 -- The listing out of its tiers: what tier k is, how many there are, one tier more at the end, and the first of it that passes a test.
-use Prim.Native.Nat.{ℕ, zero, suc, ◌+◌, ◌*◌, ◌≤◌, ◌<◌}
+use Prim.Native.Nat.{ℕ, zero, suc, ◌+◌, ◌*◌, ◌-◌, ◌≤◌, ◌<◌}
 use mathlib.Core.Path.{◌≡◌, refl, sym, ap, ◌∙◌}
 use mathlib.Core.Bool.{Bool, true, false, cond}
-use mathlib.Core.List.{List, [], ◌∷◌, ◌++◌, map, map-map, append-nil}
+use mathlib.Core.List.{List, [], ◌∷◌, ◌++◌, map, map-map, append_assoc}
 use native.Mathlib.Numerals.{add-one}
 use native.Mathlib.Decide.{dec_lt}
 use native.Mathlib.Omega.{arith}
-use lib.ListN.{length, take, drop, get_or, set, length-append, length-map, get_or-append, get_or-eq_default, take-append-drop}
-use lib.Seq.{take-suc, take_all, get_or-append-add}
+use lib.ListN.{length, take, drop, get_or, replicate, length-append, length-map, get_or-append, get_or-eq_default, take-append-drop}
+use lib.Seq.{take-suc, take_all, get_or-append-add, take-append_seam, drop-append_seam}
 use Rattle.deal.specs.Interleaving.{interleave, upto}
 use Rattle.deal.proofs.Laws.{map-upto}
 use Rattle.records.specs.Lists.{each, first_of, first_some, padded}
@@ -27,8 +27,10 @@ use Rattle.listing.specs.Held.{Same}
 use Rattle.listing.specs.Listing.{service_at, service_runs, last_runs, usable, tier_items, service_tiers, tiers, dealt, tier_count, tier_at, items_to_attempt}
 use Rattle.listing.specs.Room.{listed, tiered}
 use Rattle.listing.proofs.Tiers.{each_append, each-one, each_none, each_map}
-use Rattle.listing.proofs.Bounds.{service-le, last-le}
-use Rattle.listing.proofs.Appending.{dealt-length, members-tiered, count-tiered, long-tiered, map-id, fill_more}
+use Rattle.listing.proofs.Bounds.{service_le, last_le}
+use Rattle.listing.proofs.Appending.{dealt-length, members-tiered, count-tiered}
+use borrow.Rule.Slice.PartMut.{put_mid}
+use Rattle.std.proofs.lemmas.List.{drop-replicate}
 use Rattle.listing.proofs.Priorities.{usable-four}
 
 pub length-dealt : (r : Rules) (xs : List Item) → length (dealt r xs) ≡ length xs
@@ -53,6 +55,13 @@ long-each : {A : Type 0} (f : A → List Item) (m : ℕ) (l : List A) → ((x : 
 unfolding each
 long-each f m [] h = omega arith
 long-each f m (x ∷ l) h = omega (arith, length-append (f x) (each f l), h x, long-each f m l h)
+
+-- what is put behind the members of a list in a room
+put-behind : {A : Type 0} (n : ℕ) (z : A) (xs ys : List A) → put_mid (length xs) (length ys) (padded n z xs) ys ≡ padded n z (xs ++ ys)
+unfolding padded
+put-behind n z xs ys =
+    rw (take-append_seam, drop-append_seam, drop-replicate, length-append, append_assoc)
+    (ap (λ k. xs ++ (ys ++ replicate k z)) (let e : n - length xs - length ys ≡ n - (length xs + length ys) = omega arith in e))
 
 module _ (r : Rules) (a : Alts) (q : Queries) (s : Services) (n : Same) where
   abbrev of_service : ℕ → List Item
@@ -113,23 +122,23 @@ module _ (r : Rules) (a : Alts) (q : Queries) (s : Services) (n : Same) where
         (omega (arith, services, rest (any_ech r.ech s), usable-four r.ech s rooms))
       where
         short : (i : ℕ) → length (dealt r (of_service i)) ≤ 48
-        short i = omega (arith, length-dealt r (of_service i), service-le r q n i (service_at s i))
+        short i = omega (arith, length-dealt r (of_service i), service_le r q n i (service_at s i))
 
         services : length (each (dealt r) (map of_service (usable r.ech s))) ≤ 48 * length (usable r.ech s)
         services = rw (each_map (dealt r) of_service (usable r.ech s)) (long-each (λ i. dealt r (of_service i)) 48 (usable r.ech s) short)
 
         rest : (b : Bool) → length (each (dealt r) (last b)) ≤ 80
         rest true = rw (each_none (dealt r)) (omega arith)
-        rest false = rw (each-one (dealt r) (tier_items (last_runs r a q n))) (omega (arith, length-dealt r (tier_items (last_runs r a q n)), last-le r a q n four))
+        rest false = rw (each-one (dealt r) (tier_items (last_runs r a q n))) (omega (arith, length-dealt r (tier_items (last_runs r a q n)), last_le r a q n four))
 
     pub tier-few : (k : ℕ) → length (tier_at r a q s n k) ≤ 80
     tier-few k = elim (dec_lt k (length (usable r.ech s))) [ yes h ↦ service h | no h ↦ rest (any_ech r.ech s) refl (omega arith) ]
       where
         service : k < length (usable r.ech s) → length (tier_at r a q s n k) ≤ 80
-        service h = let i = get_or (usable r.ech s) k 0 in rw (tier-service k h) (omega (arith, length-dealt r (of_service i), service-le r q n i (service_at s i)))
+        service h = let i = get_or (usable r.ech s) k 0 in rw (tier-service k h) (omega (arith, length-dealt r (of_service i), service_le r q n i (service_at s i)))
 
         last_one : any_ech r.ech s ≡ false → k ≡ length (usable r.ech s) → length (tier_at r a q s n k) ≤ 80
-        last_one e h = rw (tier-last k h e) (omega (arith, length-dealt r (tier_items (last_runs r a q n)), last-le r a q n four))
+        last_one e h = rw (tier-last k h e) (omega (arith, length-dealt r (tier_items (last_runs r a q n)), last_le r a q n four))
 
         none : tier_at r a q s n k ≡ [] → length (tier_at r a q s n k) ≤ 80
         none e = rw (e) (omega arith)
@@ -137,6 +146,11 @@ module _ (r : Rules) (a : Alts) (q : Queries) (s : Services) (n : Same) where
         rest : (b : Bool) → any_ech r.ech s ≡ b → length (usable r.ech s) ≤ k → length (tier_at r a q s n k) ≤ 80
         rest true e h = none (tier-sealed k h e)
         rest false e h = elim (dec_lt (length (usable r.ech s)) k) [ yes m ↦ none (tier-beyond k m) | no m ↦ last_one e (omega arith) ]
+
+  -- four services at most, and the last tier
+  pub tiers-few : length s.list ≡ 4 → tier_count r s ≤ 5
+  unfolding tier_count
+  tiers-few rooms = omega (arith, usable-four r.ech s rooms, at_most_one (any_ech r.ech s))
 
   -- the tiers before k, and one more
   unfoldable pub before : ℕ → List Item
@@ -170,55 +184,34 @@ module _ (r : Rules) (a : Alts) (q : Queries) (s : Services) (n : Same) where
 
   -- what the code has filled after k tiers
   pub record Filled (k at : ℕ) (list : List Item) : Type 0 where
-    pub within : k ≤ 5
     pub place : at ≡ length (before k)
     pub holds : list ≡ padded 272 no_item (before k)
 
   pub filled_none : (l : Listing) → l ≡ listed [] → Filled 0 0 l.list
   unfolding listed
-  filled_none l e = record { within = omega arith; place = sym (ap length before-none); holds = ap (λ x. x.list) e ∙ ap (padded 272 no_item) (sym before-none) }
+  filled_none l e = record { place = sym (ap length before-none); holds = ap (λ x. x.list) e ∙ ap (padded 272 no_item) (sym before-none) }
 
-  -- and j references of the next one
-  pub record Next (k : ℕ) (t : Tier) (j at : ℕ) (list : List Item) : Type 0 where
-    pub within : j ≤ t.count
-    pub place : at ≡ length (before k) + j
-    pub holds : list ≡ padded 272 no_item (before k ++ map (λ x. x) (take j t.list))
+  module _ (k at : ℕ) (list : List Item) (v : Filled k at list) (t : Tier) (h : k < tier_count r s) (e : t ≡ tiered (tier_at r a q s n k)) (four : length a.list ≡ 4) (rooms : length s.list ≡ 4) where
+    pub filled-few : t.count ≤ 80
+    filled-few = omega (arith, count-tiered (tier_at r a q s n k) t e, tier-few four rooms k)
 
-  pub next-none : (k at : ℕ) (t : Tier) (list : List Item) → Filled k at list → Next k t 0 at list
-  next-none k at t list v = record { within = omega arith; place = v.place ∙ omega arith; holds = v.holds ∙ ap (padded 272 no_item) (sym (append-nil (before k))) }
+    pub filled-room : at + t.count ≤ 272
+    filled-room = omega (arith, v.place, count-tiered (tier_at r a q s n k) t e, ap length (before_more k h), length-append (before k) (tier_at r a q s n k), before-le (k + 1), at-most-272 four rooms)
 
-  module _ (k : ℕ) (t : Tier) (h : k < tier_count r s) (e : t ≡ tiered (tier_at r a q s n k)) where
-    module _ (four : length a.list ≡ 4) (rooms : length s.list ≡ 4) where
-      pub next-few : t.count ≤ 80
-      next-few = omega (arith, count-tiered (tier_at r a q s n k) t e, tier-few four rooms k)
-
-      pub next-room : length (before k) + t.count ≤ 272
-      next-room = omega (arith, count-tiered (tier_at r a q s n k) t e, ap length (before_more k h), length-append (before k) (tier_at r a q s n k), before-le (k + 1), at-most-272 four rooms)
-
-    module _ (j at : ℕ) (list : List Item) (v : Next k t j at list) where
-      pub next_more : j < t.count → at < 272 → Next k t (j + 1) (at + 1) (set list at (get_or t.list j no_item))
-      next_more l room =
-          let m : j < length t.list = omega (arith, count-tiered (tier_at r a q s n k) t e, long-tiered (tier_at r a q s n k) t e) in
-          record { within = omega arith; place = omega (arith, v.place); holds = fill_more 272 no_item (before k) (λ x. x) t.list j at list v.holds v.place m room }
-
-      pub next-end : k < 5 → t.count ≤ j → Filled (k + 1) at list
-      next-end l m =
-          let c : j ≡ t.count = omega (arith, v.within) in
-          let f : before k ++ map (λ x. x) (take j t.list) ≡ before (k + 1) = ap (λ x. before k ++ x) (map-id (take j t.list) ∙ (ap (λ i. take i t.list) c ∙ members-tiered (tier_at r a q s n k) t e)) ∙ sym (before_more k h) in
-          record {
-            within = omega arith;
-            place = omega (arith, v.place, count-tiered (tier_at r a q s n k) t e, ap length (before_more k h), length-append (before k) (tier_at r a q s n k));
-            holds = v.holds ∙ ap (padded 272 no_item) f;
-          }
+    -- and one tier more, copied behind them
+    pub filled-next : (m : ℕ) (ys : List Item) → m ≡ t.count → ys ≡ take t.count t.list → Filled (k + 1) (at + t.count) (put_mid at m list ys)
+    filled-next m ys c f =
+        let g : ys ≡ tier_at r a q s n k = f ∙ members-tiered (tier_at r a q s n k) t e in
+        let d = count-tiered (tier_at r a q s n k) t e in
+        record {
+          place = omega (arith, v.place, d, ap length (before_more k h), length-append (before k) (tier_at r a q s n k));
+          holds = rw (v.holds, v.place, g, c ∙ d) (put-behind 272 no_item (before k) (tier_at r a q s n k)) ∙ ap (padded 272 no_item) (sym (before_more k h));
+        }
 
   module _ (k at : ℕ) (list : List Item) (v : Filled k at list) where
     pub filled-end : tier_count r s ≤ k → record { count = at; list = list } ≡ listed (items_to_attempt r a q s n)
     unfolding listed
     filled-end h = λ j. record { count = (v.place ∙ ap length (before-all k h)) j; list = (v.holds ∙ ap (padded 272 no_item) (before-all k h)) j }
-
-    pub filled-full : length s.list ≡ 4 → 5 ≤ k → record { count = at; list = list } ≡ listed (items_to_attempt r a q s n)
-    unfolding tier_count
-    filled-full rooms h = filled-end (omega (arith, usable-four r.ech s rooms, at_most_one (any_ech r.ech s)))
 
 -- The first of the listing that passes a test is that of the first tier that has one; there is none exactly if no tier has one (records, First).
 module _ (r : Rules) (a : Alts) (q : Queries) (s : Services) (n : Same) where

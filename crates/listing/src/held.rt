@@ -3,8 +3,9 @@ ghost use Rattle.std.specs.Prelude.{min, ◌≡◌};
 ghost use Rattle.records.specs.Classes.{same_class};
 ghost use Rattle.listing.specs.Held.{is_for, held_count, held_at};
 
-use records::names::{SameNames, same_class};
-use records::queries::{Answer, Kind, Queries, is_answered, kind_number};
+use super::sources::Sources;
+use records::names::same_class;
+use records::queries::{Answer, Kind, is_answered, kind_number};
 
 // A query record and how many addresses it holds.
 #[derive(Clone, Copy)]
@@ -17,54 +18,43 @@ pub struct Holding {
 fn is_for(kind: Kind, k: Kind, a: Answer) -> bool
     ensures { result ≡ is_for kind k a }
 {
-    if kind_number(k) == kind_number(kind) {
-        return is_answered(a);
-    }
-    false
+    kind_number(k) == kind_number(kind) && is_answered(a)
 }
 
 // A count cut at a size below 256.
 pub fn at_most(n: usize, size: u8) -> u8
     ensures { result ≡ min n size }
 {
-    if n < size as usize {
-        return n as u8;
-    }
-    size
+    n.min(size as usize) as u8
 }
 
 fn held_count(a: Answer) -> u8
     ensures { result ≡ held_count a }
 {
     match a {
-        Answer::Pending => 0,
-        Answer::Failed(_) => 0,
+        Answer::Pending | Answer::Failed(_) => 0,
         Answer::Held(_, n) => at_most(n, 8),
     }
 }
 
-// The first answered record of a type and name, and how many addresses it holds.
-pub fn held_at(same: SameNames, queries: Queries, kind: Kind, place: u8) -> Holding
-    ensures { result ≡ held_at (same_class same) queries kind place }
-{
-    let n = queries.count;
-    let mut i: usize = 0;
-    while i < 16 {
-        if n <= i {
-            return Holding { query: 0, count: 0 };
-        }
-        let q = queries.list[i];
-        let k = q.kind;
-        let a = q.answer;
-        if is_for(kind, k, a) {
-            if same_class(same, q.name, place) {
-                return Holding {
-                    query: i as u8,
-                    count: held_count(a),
-                };
+impl Sources {
+    // The first answered record of a type and name, and how many addresses it holds.
+    pub fn held_at(&self, kind: Kind, place: u8) -> Holding
+        ensures { result ≡ held_at (same_class self.now.same) self.now.queries kind place }
+    {
+        let n = self.queries.count.min(16);
+        let asked = &self.queries.list[..n];
+        for (i, q) in asked.iter().enumerate() {
+            let a = q.answer;
+            if is_for(kind, q.kind, a) {
+                if same_class(self.same, q.name, place) {
+                    return Holding {
+                        query: i as u8,
+                        count: held_count(a),
+                    };
+                }
             }
         }
-        i += 1;
+        Holding { query: 0, count: 0 }
     }
-    Holding { query: 0, count: 0 }
 }

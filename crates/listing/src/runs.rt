@@ -10,15 +10,13 @@ ghost use Rattle.listing.specs.Listing.{port_or, ech_if, nothing, service_runs, 
 ghost use Rattle.listing.specs.Room.{grouped, tiered, targets_if, host_runs_if, both_runs, at_ranks, alt_runs_at};
 
 use super::Tier;
-use super::hosts::{
-    HostTargets, Targets, alt_targets, nothing_of, origin_targets, service_held, service_hints,
-};
+use super::hosts::{HostTargets, Targets, nothing_of, service_hints};
+use super::sources::Sources;
 use super::versions::{Ranks, combine, enabled_of, from_http_versions, is_enabled, rank_of};
 use records::endpoints::{Rank, rank_number};
-use records::names::{EchPlace, SameNames};
-use records::queries::Queries;
+use records::names::EchPlace;
 use records::references::{Item, Source, no_item};
-use records::rules::{Alts, Port, Rules, prefers_six};
+use records::rules::{Alts, Port, prefers_six};
 use records::services::Service;
 
 // Targets with all else that their endpoints have.
@@ -70,25 +68,17 @@ fn port_or(origin: u16, p: Port) -> u16
 fn ech_if(on: bool, e: EchPlace) -> EchPlace
     ensures { result ≡ ech_if on e }
 {
-    if on {
-        return e;
-    }
-    EchPlace::Without
+    if on { e } else { EchPlace::Without }
 }
 
 // Targets at a rank; none where it is off.
 fn run_of(on: bool, x: Targets, port: u16, ech: EchPlace, rank: Rank) -> Run
     ensures { result ≡ run (targets_if on x) port rank ech }
 {
-    let s = x.source;
-    let mut n = 0;
-    if on {
-        n = x.count;
-    }
     Run {
-        source: s,
+        source: x.source,
         port,
-        count: n,
+        count: if on { x.count } else { 0 },
         rank,
         ech,
     }
@@ -97,11 +87,9 @@ fn run_of(on: bool, x: Targets, port: u16, ech: EchPlace, rank: Rank) -> Run
 fn host_runs(on: bool, x: HostTargets, port: u16, ech: EchPlace, rank: Rank) -> HostRuns
     ensures { result ≡ host_runs_if on x port ech rank }
 {
-    let a = x.first;
-    let b = x.second;
     HostRuns {
-        first: run_of(on, a, port, ech, rank),
-        second: run_of(on, b, port, ech, rank),
+        first: run_of(on, x.first, port, ech, rank),
+        second: run_of(on, x.second, port, ech, rank),
     }
 }
 
@@ -114,34 +102,11 @@ fn no_host_runs() -> HostRuns
 fn runs_of(a: HostRuns, b: HostRuns, c: HostRuns, d: HostRuns, e: HostRuns) -> Runs
     ensures { result.list ≡ a.first ∷ a.second ∷ b.first ∷ b.second ∷ c.first ∷ c.second ∷ d.first ∷ d.second ∷ e.first ∷ e.second ∷ [] }
 {
-    let r0 = a.first;
-    let r1 = a.second;
-    let r2 = b.first;
-    let r3 = b.second;
-    let r4 = c.first;
-    let r5 = c.second;
-    let r6 = d.first;
-    let r7 = d.second;
-    let r8 = e.first;
-    let r9 = e.second;
-    let list = [r0, r1, r2, r3, r4, r5, r6, r7, r8, r9];
+    let list = [
+        a.first, a.second, b.first, b.second, c.first, c.second, d.first, d.second, e.first,
+        e.second,
+    ];
     Runs { list }
-}
-
-// The runs of a service: for each rank the addresses held for its name, then its hints.
-fn service_runs(r: Rules, queries: Queries, same: SameNames, i: u8, s: Service) -> Runs
-    ensures { tier_items result.list ≡ tier_items (service_runs r queries (same_class same) i s) }
-{
-    let on = r.versions;
-    let v = s.versions;
-    let p = s.port;
-    let e = s.ech;
-    let ranks = from_http_versions(enabled_of(on, v));
-    let port = port_or(r.port, p);
-    let ech = ech_if(r.ech, e);
-    let held = service_held(r, queries, same, s);
-    let hints = service_hints(r, i, s);
-    at_ranks(held, hints, ranks, port, ech)
 }
 
 // What is held and what is hinted, at each of at most two ranks.
@@ -161,103 +126,37 @@ fn at_ranks(held: HostTargets, hints: HostTargets, ranks: Ranks, port: u16, ech:
     )
 }
 
-// The runs of alternative service i, where there is one.
-fn alt_runs(r: Rules, queries: Queries, same: SameNames, alts: Alts, i: u8) -> HostRuns
-    requires { i < 4 }
-    ensures { tier_items (both_runs result) ≡ tier_items (alt_runs_at r queries (same_class same) alts i) }
-{
-    let n = alts.count;
-    let at = i as usize;
-    if n <= at {
-        return no_host_runs();
-    }
-    let a = alts.list[at];
-    let on = r.versions;
-    let h = a.host;
-    let p = a.port;
-    let v = a.version;
-    host_runs(
-        is_enabled(on, v),
-        alt_targets(r, queries, same, i + 1, h),
-        port_or(r.port, p),
-        EchPlace::Without,
-        rank_of(v),
-    )
-}
-
-// The runs of the origin.
-fn origin_runs(r: Rules, queries: Queries, same: SameNames) -> HostRuns
-    ensures { tier_items (both_runs result) ≡ tier_items (origin_runs r queries (same_class same)) }
-{
-    let v = r.versions;
-    let ranks = combine(v.h2, v.h1);
-    let k = ranks.first;
-    host_runs(
-        0 < ranks.count,
-        origin_targets(r, queries, same),
-        r.port,
-        EchPlace::Without,
-        k,
-    )
-}
-
-// The last tier: alternative services and origin.
-fn last_runs(r: Rules, alts: Alts, queries: Queries, same: SameNames) -> Runs
-    ensures { tier_items result.list ≡ tier_items (last_runs r alts queries (same_class same)) }
-{
-    // most configurations have none, and each call below copies what it reads
-    if alts.count == 0 {
-        let z = no_host_runs();
-        return runs_of(z, z, z, z, origin_runs(r, queries, same));
-    }
-    runs_of(
-        alt_runs(r, queries, same, alts, 0),
-        alt_runs(r, queries, same, alts, 1),
-        alt_runs(r, queries, same, alts, 2),
-        alt_runs(r, queries, same, alts, 3),
-        origin_runs(r, queries, same),
-    )
-}
-
 fn family(prefer6: bool, s: Source) -> u8
     ensures { (result ≡ family_of prefer6 s) × (result < 2) }
 {
     match s {
-        Source::Held6(_) => { if prefer6 { 0 } else { 1 } }
-        Source::Held4(_) => { if prefer6 { 1 } else { 0 } }
-        Source::Hint6(_) => { if prefer6 { 0 } else { 1 } }
-        Source::Hint4(_) => { if prefer6 { 1 } else { 0 } }
-        Source::Literal6(_) => { if prefer6 { 0 } else { 1 } }
-        Source::Literal4(_) => { if prefer6 { 1 } else { 0 } }
+        Source::Held6(_) | Source::Hint6(_) | Source::Literal6(_) => { if prefer6 { 0 } else { 1 } }
+        Source::Held4(_) | Source::Hint4(_) | Source::Literal4(_) => { if prefer6 { 1 } else { 0 } }
         Source::Name(_) => 0,
     }
 }
 
 // The group in which a listed endpoint is dealt.
+#[tactic(auto, unfolding(deal::specs::Interleaving::group_of))]
 fn group_of(prefer6: bool, i: Item) -> u8
     ensures { result ≡ group_of prefer6 i }
 {
-    let s = i.source;
-    let k = i.rank;
-    let f = family(prefer6, s);
-    rank_number(k) * 2 + f
+    rank_number(i.rank) * 2 + family(prefer6, i.source)
 }
 
 fn item_of(r: Run, p: u8) -> Item
     ensures { result ≡ item_of r p }
 {
-    let s = r.source;
-    let k = r.rank;
-    let e = r.ech;
     Item {
-        source: s,
+        source: r.source,
         port: r.port,
         place: p,
-        rank: k,
-        ech: e,
+        rank: r.rank,
+        ech: r.ech,
     }
 }
 
+#[tactic(auto, unfolding(crate::specs::Room::grouped, records::specs::Lists::padded))]
 fn no_undealt() -> Undealt
     ensures { result ≡ grouped false [] }
 {
@@ -275,21 +174,14 @@ fn tier_of(runs: Runs, prefer6: bool) -> Undealt
     ensures { result ≡ grouped prefer6 (tier_items runs.list) }
 {
     let mut t = no_undealt();
-    let mut r: usize = 0;
-    let mut p: u8 = 0;
     let mut at: usize = 0;
-    while r < 10 {
-        let run = runs.list[r];
-        if run.count <= p {
-            r += 1;
-            p = 0;
-            continue;
+    for &run in &runs.list {
+        for p in 0..run.count {
+            let x = item_of(run, p);
+            t.groups[at] = group_of(prefer6, x);
+            t.list[at] = x;
+            at += 1;
         }
-        let x = item_of(run, p);
-        t.groups[at] = group_of(prefer6, x);
-        t.list[at] = x;
-        at += 1;
-        p += 1;
     }
     t.count = at;
     t
@@ -305,6 +197,7 @@ fn dealt_order(groups: [u8; 80], n: usize) -> DealtOrder
     DealtOrder { list: out }
 }
 
+#[tactic(auto, unfolding(crate::specs::Room::tiered, records::specs::Lists::padded))]
 pub fn no_tier() -> Tier
     ensures { result ≡ tiered [] }
 {
@@ -321,13 +214,11 @@ fn gathered(t: Undealt, o: DealtOrder) -> Tier
     ensures { result ≡ tiered (map (λ i. get_or t.list i no_item) (take t.count o.list)) }
 {
     let n = t.count;
+    let dealt = &o.list[..n];
     let mut out = no_tier();
-    let mut k: usize = 0;
-    while k < n {
-        let j = o.list[k] as usize;
-        let x = t.list[j];
-        out.list[k] = x;
-        k += 1;
+    for (k, &i) in dealt.iter().enumerate() {
+        let j = i as usize;
+        out.list[k] = t.list[j];
     }
     out.count = n;
     out
@@ -345,18 +236,81 @@ fn dealt_tier(runs: Runs, prefer6: bool) -> Tier
     gathered(t, o)
 }
 
-// The tier of the service at place i of the answer.
-pub fn service_tier(r: Rules, queries: Queries, same: SameNames, i: u8, s: Service) -> Tier
-    ensures { result ≡ tiered (dealt r (tier_items (service_runs r queries (same_class same) i s))) }
-{
-    let f = r.preference;
-    dealt_tier(service_runs(r, queries, same, i, s), prefers_six(f))
-}
+impl Sources {
+    // The runs of a service: for each rank the addresses held for its name, then its hints.
+    fn service_runs(&self, i: u8, s: &Service) -> Runs
+        ensures { tier_items result.list ≡ tier_items (service_runs self.now.rules self.now.queries (same_class self.now.same) i s.now) }
+    {
+        let r = self.rules;
+        let ranks = from_http_versions(enabled_of(r.versions, s.versions));
+        let port = port_or(r.port, s.port);
+        let ech = ech_if(r.ech, s.ech);
+        let held = self.service_held(s);
+        let hints = service_hints(r, i, s);
+        at_ranks(held, hints, ranks, port, ech)
+    }
 
-// The last tier: alternative services and origin.
-pub fn last_tier(r: Rules, alts: Alts, queries: Queries, same: SameNames) -> Tier
-    ensures { result ≡ tiered (dealt r (tier_items (last_runs r alts queries (same_class same)))) }
-{
-    let f = r.preference;
-    dealt_tier(last_runs(r, alts, queries, same), prefers_six(f))
+    // The runs of alternative service i, where there is one.
+    fn alt_runs(&self, alts: &Alts, i: u8) -> HostRuns
+        requires { i < 4 }
+        ensures { tier_items (both_runs result) ≡ tier_items (alt_runs_at self.now.rules self.now.queries (same_class self.now.same) alts.now i) }
+    {
+        let at = i as usize;
+        if alts.count <= at {
+            return no_host_runs();
+        }
+        let r = self.rules;
+        let a = alts.list[at];
+        host_runs(
+            is_enabled(r.versions, a.version),
+            self.alt_targets(i + 1, a.host),
+            port_or(r.port, a.port),
+            EchPlace::Without,
+            rank_of(a.version),
+        )
+    }
+
+    // The runs of the origin.
+    fn origin_runs(&self) -> HostRuns
+        ensures { tier_items (both_runs result) ≡ tier_items (origin_runs self.now.rules self.now.queries (same_class self.now.same)) }
+    {
+        let v = self.rules.versions;
+        let ranks = combine(v.h2, v.h1);
+        host_runs(
+            0 < ranks.count,
+            self.origin_targets(),
+            self.rules.port,
+            EchPlace::Without,
+            ranks.first,
+        )
+    }
+
+    // The runs of the last tier: alternative services and origin.
+    fn last_runs(&self, alts: Alts) -> Runs
+        ensures { tier_items result.list ≡ tier_items (last_runs self.now.rules alts self.now.queries (same_class self.now.same)) }
+    {
+        runs_of(
+            self.alt_runs(&alts, 0),
+            self.alt_runs(&alts, 1),
+            self.alt_runs(&alts, 2),
+            self.alt_runs(&alts, 3),
+            self.origin_runs(),
+        )
+    }
+
+    // The tier of the service at place i of the answer.
+    #[tactic(auto, unfolding(crate::specs::Listing::dealt), using(crate::proofs::Bounds::service_le))]
+    pub fn service_tier(&self, i: u8, s: &Service) -> Tier
+        ensures { result ≡ tiered (dealt self.now.rules (tier_items (service_runs self.now.rules self.now.queries (same_class self.now.same) i s.now))) }
+    {
+        dealt_tier(self.service_runs(i, s), prefers_six(self.rules.preference))
+    }
+
+    // The last tier: alternative services and origin.
+    #[tactic(auto, unfolding(crate::specs::Listing::dealt), using(crate::proofs::Bounds::last_le))]
+    pub fn last_tier(&self, alts: Alts) -> Tier
+        ensures { result ≡ tiered (dealt self.now.rules (tier_items (last_runs self.now.rules alts self.now.queries (same_class self.now.same)))) }
+    {
+        dealt_tier(self.last_runs(alts), prefers_six(self.rules.preference))
+    }
 }

@@ -1,5 +1,5 @@
 // Versions, and the ranks that they are attempted at.
-ghost use Rattle.std.specs.Prelude.{◌≡◌, ◌&&◌, ◌∷◌, []};
+ghost use Rattle.std.specs.Prelude.{◌≡◌, ◌∷◌, []};
 ghost use Rattle.listing.specs.Listing.{combined, from_http_versions, enabled, is_enabled, rank_of};
 ghost use Rattle.listing.specs.Room.{ranked};
 
@@ -64,16 +64,10 @@ pub fn enabled_of(on: Versions, v: Versions) -> Versions
     ensures { result ≡ enabled on v }
 {
     Versions {
-        h3: if_on(on.h3, v.h3),
-        h2: if_on(on.h2, v.h2),
-        h1: if_on(on.h1, v.h1),
+        h3: on.h3 && v.h3,
+        h2: on.h2 && v.h2,
+        h1: on.h1 && v.h1,
     }
-}
-
-fn if_on(on: bool, v: bool) -> bool
-    ensures { result ≡ on && v }
-{
-    if on { v } else { false }
 }
 
 pub fn is_enabled(on: Versions, v: Version) -> bool

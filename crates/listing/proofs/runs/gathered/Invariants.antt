@@ -1,5 +1,4 @@
 -- `listing::runs::gathered` meets its contract: one reference more, at the next position of the order.
-use Prim.Native.Nat.{◌-◌, ◌≤◌}
 use mathlib.Core.Path.{◌≡◌}
 use mathlib.Core.List.{map}
 use lib.ListN.{get_or, take}
@@ -8,7 +7,4 @@ use Rattle.records.specs.References.{no_item}
 use Rattle.listing.proofs.runs.gathered.Given as goal
 
 abbrev pub invariant-loop-k : goal.invariant-loop-k
-invariant-loop-k l = (l.k ≤ l.n) × (l.out.list ≡ padded 80 no_item (map (λ i. get_or l.t.list i no_item) (take l.k l.o.list)))
-
-abbrev pub decreases-loop-k : goal.decreases-loop-k
-decreases-loop-k l = l.n - l.k
+invariant-loop-k l = l.out.list ≡ padded 80 no_item (map (λ i. get_or l.t.list i no_item) (take l.k l.dealt))

@@ -1,4 +1,3 @@
-use Prim.Native.Nat.{◌<◌}
 use mathlib.Core.Path.{◌≡◌}
 use native.Mathlib.Omega.{arith}
 use lib.ListN.{length}
@@ -6,47 +5,40 @@ use Rattle.listing.proofs.Tiers.{filling-none, filling-turn, filling-room, filli
 use borrow.Author.Rules.{rules}
 use Rattle.listing.proofs.runs.tier_of.Goals as goal
 
--- a tier has ten runs
-ten : (c : goal.Then-run-p) → length c.args.runs.list ≡ 10
-ten c = search rules
-
--- a tier has ten runs
-ten-2 : (c : goal.After-group_of) → length c.args.runs.list ≡ 10
-ten-2 c = search rules
-
--- a tier has ten runs
-ten-3 : (c : goal.After-loop-r) → length c.args.runs.list ≡ 10
-ten-3 c = search rules
-
--- and there is room for one endpoint more
-room : (c : goal.After-group_of) → c.loop-r.at < 80
-room c =
-    filling-room c.args.prefer6 c.args.runs.list c.loop-r.r c.loop-r.p c.loop-r.at c.loop-r.t.list c.loop-r.t.groups c.loop-r.invariant (ten-2 c) c.requires c.loop-r-test.true c.if-run-p.false
-
-pub loop-r-init : goal.loop-r-init
-loop-r-init c =
-    filling-none c.args.prefer6 c.args.runs.list _ c.no_undealt-t.ensures
-
-pub loop-r-preserved-then-run-p : goal.loop-r-preserved-then-run-p
-loop-r-preserved-then-run-p c =
-    filling-turn c.args.prefer6 c.args.runs.list c.loop-r.r c.loop-r.p c.loop-r.at c.loop-r.t.list c.loop-r.t.groups c.loop-r.invariant (ten c) c.loop-r-test.true c.if-run-p.true
+pub loop-run-init : goal.loop-run-init
+loop-run-init c = filling-none c.args.prefer6 c.args.runs.list _ c.no_undealt-t.ensures
 
 pub bounds-t-at : goal.bounds-t-at
-bounds-t-at c = room c
+bounds-t-at c =
+    let ten : length c.args.runs.list ≡ 10 = search rules in
+    filling-room _ _ _ _ _ _ _ c.loop-p.invariant ten c.requires (omega arith) c.loop-p-test.true
 
 pub offset_bounds-t-at : goal.offset_bounds-t-at
-offset_bounds-t-at c = omega (arith, room c)
+offset_bounds-t-at c =
+    let ten : length c.args.runs.list ≡ 10 = search rules in
+    omega (arith, filling-room _ _ _ _ _ _ _ c.loop-p.invariant ten c.requires (omega arith) c.loop-p-test.true)
 
-pub bounds-t-at-in-loop-r : goal.bounds-t-at-in-loop-r
-bounds-t-at-in-loop-r c = room c
+pub bounds-t-at-in-loop-p : goal.bounds-t-at-in-loop-p
+bounds-t-at-in-loop-p c =
+    let ten : length c.args.runs.list ≡ 10 = search rules in
+    filling-room _ _ _ _ _ _ _ c.loop-p.invariant ten c.requires (omega arith) c.loop-p-test.true
 
 pub overflow_add-at : goal.overflow_add-at
-overflow_add-at c = omega (arith, room c)
+overflow_add-at c =
+    let ten : length c.args.runs.list ≡ 10 = search rules in
+    omega (arith, filling-room _ _ _ _ _ _ _ c.loop-p.invariant ten c.requires (omega arith) c.loop-p-test.true)
 
-pub loop-r-preserved : goal.loop-r-preserved
-loop-r-preserved c =
-    filling-more c.args.prefer6 c.args.runs.list c.loop-r.r c.loop-r.p c.loop-r.at c.loop-r.t.list c.loop-r.t.groups c.loop-r.invariant (ten-2 c) _ _ c.requires c.loop-r-test.true c.if-run-p.false c.item_of-x.ensures c.group_of.ensures
+pub loop-p-preserved : goal.loop-p-preserved
+loop-p-preserved c =
+    let ten : length c.args.runs.list ≡ 10 = search rules in
+    filling-more _ _ _ _ _ _ _ c.loop-p.invariant ten _ _ c.requires (omega arith) c.loop-p-test.true c.item_of-x.ensures c.group_of.ensures
+
+pub loop-run-preserved : goal.loop-run-preserved
+loop-run-preserved c =
+    let ten : length c.args.runs.list ≡ 10 = search rules in
+    filling-turn _ _ _ _ _ _ _ c.loop-p.invariant ten (omega arith) c.loop-p-test.false
 
 pub returns : goal.returns
 returns c =
-    filling-end c.args.prefer6 c.args.runs.list c.loop-r.r c.loop-r.p c.loop-r.at c.loop-r.t.list c.loop-r.t.groups c.loop-r.invariant (ten-3 c) c.loop-r-test.false
+    let ten : length c.args.runs.list ≡ 10 = search rules in
+    filling-end _ _ _ _ _ _ _ c.loop-run.invariant ten (omega arith)
