@@ -1,6 +1,6 @@
 #![tactic(auto)]
 // An input whose body is sound: which refusal of 7 to 12 it gets, or what it changes.
-ghost use Rattle.std.specs.Prelude.{◌≡◌, ◌<◌, IfSome, take};
+ghost use Rattle.std.specs.Prelude.{◌≡◌, ◌<◌, IfSome};
 ghost use Rattle.input.specs.Verdicts.{sent};
 ghost use Rattle.input.specs.Input.{IsWithin, in_flight, asked_of, tried_of, with_answer, is_failed, stored, first_answer, fresh_answer, answer_verdict, retry_verdict, outcome_verdict, end_verdict, result_verdict, verdict_of};
 
@@ -9,6 +9,7 @@ use records::queries::{Answer, Kind, Queries, Query, Refresh, is_answered, kind_
 use records::services::has_ech;
 use state::attempts::{Attempt, Attempts, State, with_state};
 use state::changes::{InputChange, Round};
+use state::members::in_use;
 
 // An input without the addresses, services and bytes that come beside it. An answer has its type, the query's id and whether it is stale.
 #[derive(Clone, Copy)]
@@ -48,16 +49,6 @@ fn is_in_flight(r: Refresh, id: u64) -> bool
         Refresh::InFlight(i) => i == id,
         Refresh::Done => false,
     }
-}
-
-// The members of a table that are in use: the first `count`, or all of them where it says more.
-fn in_use<T>(list: &[T], count: usize) -> &[T]
-    ensures { result.now ≡ take count list.now }
-{
-    if list.len() <= count {
-        return list;
-    }
-    &list[..count]
 }
 
 // The record that has the id, as its own or as a refresh in flight.

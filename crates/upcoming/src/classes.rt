@@ -91,6 +91,7 @@ fn same_echs(echs: Echs) -> SameEchs
 }
 
 // What is the same among names, hosts and ECH bytes.
+#[tactic(auto, unfolding(crate::specs::Alike::alike_of))]
 pub fn alike_of(names: Names, echs: Echs) -> Alike
     ensures { result ≡ alike_of names echs }
 {
