@@ -62,6 +62,11 @@ pub empty-out : (names : Names) (p : ℕ) → p < 14 → length (name_bytes (get
 unfolding same_host_at
 empty-out names p h e = same_of (host_at names) 14 p (host-empty names p h e)
 
+-- two empty names have the origin's host, both
+pub both_empty : (names : Names) (p q : ℕ) → length (name_bytes_at names p) ≡ 0 → length (name_bytes_at names q) ≡ 0 → same_host_at names p q ≡ true
+unfolding same_host_at host_at
+both_empty names p q h k = same_of (host_at names) p q (sym (fallen-back _ _ h) ∙ fallen-back _ _ k)
+
 -- ECH bytes: outside the table there are none
 ech-outside : (echs : Echs) (p : ℕ) → 40 ≤ p → ech_bytes_at echs p ≡ []
 unfolding ech_bytes ech_at no_ech

@@ -16,12 +16,18 @@ struct Hosts<'a> {
 impl Places for Hosts<'_> {
     ghost alike = { λ h. same_host_at h.names.now };
 
-    #[tactic(auto, unfolding(crate::specs::Alike::same_host_at, records::specs::Names::host_at))]
+    // Two empty names have the origin's host: no byte is compared.
+    #[tactic(auto, unfolding(crate::specs::Alike::same_host_at, records::specs::Names::host_at), using(crate::proofs::Classed::both_empty))]
     fn same(&self, p: u8, q: u8) -> bool {
+        let a = self.names.bytes_at(p);
+        let b = self.names.bytes_at(q);
+        if a.is_empty() {
+            if b.is_empty() {
+                return true;
+            }
+        }
         let origin = self.names.bytes_at(0);
-        let a = connect_name(origin, self.names.bytes_at(p));
-        let b = connect_name(origin, self.names.bytes_at(q));
-        same_bytes(a, b)
+        same_bytes(connect_name(origin, a), connect_name(origin, b))
     }
 }
 
