@@ -6,12 +6,13 @@ ghost use Rattle.replies.specs.Replies.{ids_after, asked_at, tried_at, answered_
 ghost use Rattle.after.specs.After.{counted};
 
 use after::ids_called;
-use bodies::{Event, EventRead};
+use bodies::Event;
 use input::Verdict;
 use machine::calls::{Taken, change_of, taken_of};
 use machine::grant::{Output, Turn};
 use numbers::refusal::Refusal;
 use pacing::id::IdGenerator;
+use parts::reading::Reading;
 use records::queries::Query;
 use state::attempts::Attempt;
 use state::changes::{CallChange, InputChange, Round};
@@ -55,24 +56,20 @@ pub enum Touched {
 pub fn call_reply(turn: Turn) -> Reply
     ensures { result ≡ call_reply turn }
 {
-    let output = turn.output;
-    let change = turn.change;
     Reply {
-        answer: Answer::Output(output),
+        answer: Answer::Output(turn.output),
         calls: 1,
-        change: Change::Called(change),
+        change: Change::Called(turn.change),
     }
 }
 
 pub fn input_reply(verdict: Verdict) -> Reply
     ensures { result ≡ input_reply verdict }
 {
-    let taken = taken_of(verdict);
-    let change = change_of(verdict);
     Reply {
-        answer: Answer::Input(taken),
+        answer: Answer::Input(taken_of(verdict)),
         calls: 0,
-        change: Change::Fed(change),
+        change: Change::Fed(change_of(verdict)),
     }
 }
 
@@ -88,35 +85,27 @@ pub fn fault_reply(e: Refusal) -> Reply
 }
 
 // The event of a body; of a refused one, which has none, a call.
-pub fn event_in(read: EventRead) -> Event
+pub fn event_in(read: Reading<Event>) -> Event
     ensures { result ≡ event_in read }
 {
     match read {
-        EventRead::Event(e, _) => e,
-        EventRead::Refused(_, _) => Event::Call,
+        Ok((e, _)) => e,
+        Err(_) => Event::Call,
     }
 }
 
 pub fn is_call(e: Event) -> bool
     ensures { result ≡ is_call e }
 {
-    match e {
-        Event::Call => true,
-        Event::Fails(_, _, _) => false,
-        Event::Holds(_, _, _, _) => false,
-        Event::Success(_) => false,
-        Event::Failure(_) => false,
-        Event::EchRetry(_, _) => false,
-    }
+    matches!(e, Event::Call)
 }
 
 pub fn ids_after(ids: IdGenerator, change: Change) -> IdGenerator
     ensures { result ≡ ids_after ids change }
 {
     match change {
-        Change::Nothing => ids,
         Change::Called(c) => ids_called(ids, c),
-        Change::Fed(_) => ids,
+        Change::Nothing | Change::Fed(_) => ids,
     }
 }
 
