@@ -6,18 +6,17 @@ ghost use Rattle.numbers.specs.Shown as numbers;
 ghost use Rattle.parts.specs.Reading.{read, next, field};
 ghost use Rattle.parts.specs.Items.{items, past, counted};
 ghost use Rattle.parts.specs.Shown.{shown, passed_shown};
-ghost use Rattle.bodies.specs.Events.{fault_of};
+ghost use Rattle.bodies.specs.Events.{fault_of, fault_shown};
 ghost use Rattle.configuration.specs.Configuration.{literal_by, origin_at, alt_host_at, version_of, alt, preference_of, choices, front, multiplier_at, pace, mode_of, flagged, back, host_in, set_up, rest_at, fields_at, setup_at};
 ghost use Rattle.configuration.specs.Filling.{alt_host, alt_of, host_name, no_alternatives, alts_in, names_with, configured_in};
 ghost use Rattle.configuration.specs.declared.HostSpan.TheVariants.{Named};
 
-use bodies::Fault;
 use numbers::field::{Span, read_at_most, read_name, read_origin};
 use numbers::number::read_number;
-use numbers::refusal::{Refusal, refusal_number};
+use numbers::refusal::Refusal;
 use parts::address::{Items, read_four, read_six};
 use parts::field::{read_port, read_versions};
-use parts::reading::{Fault as Refused, Reading, field};
+use parts::reading::{Fault, Reading, field};
 use parts::room::name_of;
 use records::names::{Name, Names, no_name, no_names};
 use records::rules::{
@@ -172,7 +171,7 @@ fn read_alt(s: &[u8], at: usize) -> Reading<AltSpan>
 }
 
 // The place after n alternative services.
-fn pass_alts(s: &[u8], at: usize, n: usize) -> Result<usize, Refused>
+fn pass_alts(s: &[u8], at: usize, n: usize) -> Result<usize, Fault>
     ensures { passed_shown result ≡ past (items (alt s.now) n at) }
 {
     let mut p = at;
@@ -241,7 +240,7 @@ fn read_multiplier(s: &[u8], at: usize) -> Reading<u32>
 {
     let (v, end) = field(at, read_at_most(s, at, 4294967295, Refusal::OutOfRange))?;
     if v == 0 {
-        return Err(Refused {
+        return Err(Fault {
             refusal: Refusal::OutOfRange,
             place: at,
         });
@@ -367,7 +366,7 @@ pub fn read_configuration(s: &[u8]) -> Reading<Setup>
 {
     let (c, end) = read_fields(s)?;
     if end < s.len() {
-        return Err(Refused {
+        return Err(Fault {
             refusal: Refusal::Trailing,
             place: end,
         });
@@ -375,17 +374,12 @@ pub fn read_configuration(s: &[u8]) -> Reading<Setup>
     Ok((c, end))
 }
 
-// The number of its first fault, and the place where reading stopped; 0 where there is none.
-pub fn configuration_fault(s: &[u8]) -> Fault
-    ensures { result ≡ fault_of (setup_at s.now) }
+// Its first fault, or where it ends.
+pub fn configuration_fault(s: &[u8]) -> Result<usize, Fault>
+    ensures { fault_shown result ≡ fault_of (setup_at s.now) }
 {
-    match read_configuration(s) {
-        Err(e) => Fault {
-            number: refusal_number(e.refusal),
-            place: e.place,
-        },
-        Ok((_, place)) => Fault { number: 0, place },
-    }
+    let (_, end) = read_configuration(s)?;
+    Ok(end)
 }
 
 fn alt_host(h: HostSpan) -> AltHost

@@ -10,10 +10,10 @@ use Rattle.configuration.proofs.fill_alts.Goals as goal
 pub returns-then-n-gt4 : goal.returns-then-n-gt4
 returns-then-n-gt4 c = c.no_alternatives-none.ensures ∙ alternatives-none _ _ (fill-over _ 4 _ c.if-n-gt4.true)
 
-pub returns-in-Err : goal.returns-in-Err
+pub returns-in_default : goal.returns-in_default
 unfolding no_alternatives no_alts
-returns-in-Err c =
-    let u = fill_fault alt_of _ _ _ _ _ _ c.loop-i.invariant.1 c.loop-i-test.true _ _ c.in-Err.ensures in
+returns-in_default c =
+    let u = fill_fault alt_of _ _ _ _ _ _ c.loop-i.invariant.1 c.loop-i-test.true _ _ c.in_default.ensures in
     c.no_alternatives.ensures ∙ alternatives-none _ _ (fill_none alt_of _ _ 4 c.loop-i.invariant.0 no_alt (rw c.no_alternatives-none.ensures at u))
 
 pub loop-i-preserved : goal.loop-i-preserved
