@@ -20,10 +20,8 @@ fn name(list: &[u64], base: usize, bytes: &[u8], i: usize) -> Name
     ensures { result ≡ name_of list.now base bytes.now i }
 {
     let mut room = [0u8; 253];
-    let mut k: usize = 0;
-    while k < 253 {
+    for k in 0..253 {
         room[k] = byte_at(bytes, 253 * i + k);
-        k += 1;
     }
     Name {
         len: size(list, base, i),
@@ -37,10 +35,8 @@ pub fn names(list: &[u64], base: usize, bytes: &[u8]) -> Names
 {
     let n = no_name();
     let mut all = [n; 14];
-    let mut i: usize = 0;
-    while i < 14 {
+    for i in 0..14 {
         all[i] = name(list, base, bytes, i);
-        i += 1;
     }
     Names { list: all }
 }
@@ -50,10 +46,8 @@ fn ech(list: &[u64], base: usize, bytes: &[u8], i: usize) -> Ech
     ensures { result ≡ ech_of list.now base bytes.now i }
 {
     let mut room = [0u8; 512];
-    let mut k: usize = 0;
-    while k < 512 {
+    for k in 0..512 {
         room[k] = byte_at(bytes, 512 * i + k);
-        k += 1;
     }
     Ech {
         len: size(list, base, i),
@@ -67,10 +61,8 @@ pub fn echs(list: &[u64], base: usize, bytes: &[u8]) -> Echs
 {
     let e = no_ech();
     let mut all = [e; 40];
-    let mut i: usize = 0;
-    while i < 40 {
+    for i in 0..40 {
         all[i] = ech(list, base, bytes, i);
-        i += 1;
     }
     Echs { list: all }
 }

@@ -8,9 +8,9 @@ use Rattle.probes.proofs.of_numbers.tell_wrote.Goals as goal
 as_clauses : {A B : Type 0} → A × B → record { answer : A; values : B }
 as_clauses p = record { answer = p.0; values = p.1 }
 
-pub returns-in-Refused : goal.returns-in-Refused
+pub returns-in-Err : goal.returns-in-Err
 unfolding filled
-returns-in-Refused c = as_clauses (told (λ x. put_number (wrote_shown x)) (λ x. put_words (wrote_shown x)) _ (c.refusal_number.ensures, refl) (sym c.in-Refused.is))
+returns-in-Err c = as_clauses (told (λ x. put_number (wrote_shown x)) (λ x. put_words (wrote_shown x)) _ (c.refusal_number.ensures, refl) (sym c.in-Err.is))
 
-pub returns-in-Next : goal.returns-in-Next
-returns-in-Next c = as_clauses (told (λ x. put_number (wrote_shown x)) (λ x. put_words (wrote_shown x)) _ (refl, one _ _ c.put_word.ensures) (sym c.in-Next.is))
+pub returns-in-Ok : goal.returns-in-Ok
+returns-in-Ok c = as_clauses (told (λ x. put_number (wrote_shown x)) (λ x. put_words (wrote_shown x)) _ (refl, one _ _ c.put_word.ensures) (sym c.in-Ok.is))
