@@ -12,6 +12,7 @@ use super::words::put_word;
 use numbers::field::Span;
 use numbers::refusal::{Refusal, refusal_number};
 
+#[tactic(auto, unfolding(crate::specs::Words::filled))]
 fn tell_read(r: Result<(u64, usize), Refusal>, words: &mut [u64]) -> u8
     ensures answer { result ≡ number_of (shown r) }
     ensures values { words.new ≡ filled words.old (read_words (shown r)) }
@@ -26,6 +27,7 @@ fn tell_read(r: Result<(u64, usize), Refusal>, words: &mut [u64]) -> u8
     }
 }
 
+#[tactic(auto, unfolding(crate::specs::Words::filled))]
 fn tell_span(r: Result<(Span, usize), Refusal>, words: &mut [u64]) -> u8
     ensures answer { result ≡ number_of (shown r) }
     ensures values { words.new ≡ filled words.old (span_words (shown r)) }
@@ -41,6 +43,7 @@ fn tell_span(r: Result<(Span, usize), Refusal>, words: &mut [u64]) -> u8
     }
 }
 
+#[tactic(auto, unfolding(crate::specs::Words::filled))]
 pub fn tell_wrote(r: Result<usize, Refusal>, words: &mut [u64]) -> u8
     ensures answer { result ≡ put_number (wrote_shown r) }
     ensures values { words.new ≡ filled words.old (put_words (wrote_shown r)) }
@@ -55,6 +58,7 @@ pub fn tell_wrote(r: Result<usize, Refusal>, words: &mut [u64]) -> u8
 }
 
 // The refusal at a place of the table, from 0; past its end the first.
+#[tactic(auto, unfolding(crate::specs::Words::refusal_at))]
 fn refusal_at(place: usize) -> Refusal
     ensures { result ≡ refusal_at place }
 {
