@@ -12,6 +12,7 @@ use Prim.Native.Nat.{ℕ, zero, suc, ◌-◌, ◌≤◌}
 use native.Mathlib.Omega.{arith}
 use lib.ListN.{length, get_or, replicate, length-append, length-replicate, length-map}
 use borrow.Author.Tests.{le-leb}
+use Rattle.std.specs.Prelude.{Option, None, Some}
 use Rattle.numbers.specs.Names.{longest_name}
 use Rattle.numbers.specs.declared.field.Span.{Span}
 use Rattle.records.specs.Lists.{padded}
@@ -24,8 +25,6 @@ use Rattle.parts.specs.declared.address.Items.{Items}
 use Rattle.parts.proofs.Items.{listed-few}
 use Rattle.offers.specs.Offers.{offer, service_of, target_name, ech_from, target_ech, brought, no_offered, offered_in}
 use Rattle.offers.specs.Offers.{no_span, span_of, located, no_located, located_in, names_in, echs_in, in_rooms}
-use Rattle.offers.specs.declared.EchSpan.{EchSpan}
-use Rattle.offers.specs.declared.EchSpan.TheVariants.{Without, Sealed}
 use Rattle.offers.specs.declared.Offer.{Offer}
 
 module _ (s : List ℕ) (l : Items) where
@@ -75,9 +74,9 @@ module _ (s : List ℕ) where
   unfolding ech_in no_ech padded
   no-ech = rw (none_kept 512)
 
-  ech-at : (e : EchSpan) → ech_in (kept 512 s (span_of e)) ≡ ech_from s e
-  ech-at Without = no-ech
-  ech-at (Sealed b) = refl
+  ech-at : (e : Option Span) → ech_in (kept 512 s (span_of e)) ≡ ech_from s e
+  ech-at None = no-ech
+  ech-at (Some b) = refl
 
   map-names : (l : List Offer) → map (λ b. name_in (kept longest_name s b)) (map (λ o. o.head.name) l) ≡ map (target_name s) l
   unfolding target_name
