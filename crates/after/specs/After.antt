@@ -18,6 +18,7 @@ use Rattle.records.specs.declared.queries.Queries.{Queries}
 use Rattle.records.specs.declared.services.Service.{Service}
 use Rattle.records.specs.declared.services.Services.{Services}
 use Rattle.state.specs.Changes.{first_name, first_ech}
+use Rattle.state.specs.declared.Machine.{Machine}
 use Rattle.state.specs.declared.attempts.Attempt.{Attempt}
 use Rattle.state.specs.declared.attempts.Attempts.{Attempts}
 use Rattle.state.specs.declared.attempts.Retries.{Retries}
@@ -172,3 +173,36 @@ bare_echs t f = are_zero (ech_at t f).len (ech_at t (f + 1)).len (ech_at t (f + 
 -- whether the places of a round hold no bytes
 unfoldable pub bare : Names → Echs → Round → Bool
 bare n e round = bare_names n (first_name round) && bare_echs e (first_ech round)
+
+-- the machine after a change that a call makes, and after one that an input makes, with what came beside it
+abbrev pub called : Machine → CallChange → Machine
+called m c =
+    record {
+      rules = m.rules;
+      timing = m.timing;
+      alts = m.alts;
+      ids = ids_called m.ids c;
+      queries = queries_called m.queries c;
+      answers = m.answers;
+      services = m.services;
+      attempts = attempts_called m.attempts c;
+      retries = m.retries;
+      names = m.names;
+      echs = m.echs;
+    }
+
+abbrev pub fed : Machine → InputChange → Addresses → Services → TargetNames → TargetEchs → Ech → Machine
+fed m c addresses offered names echs retry =
+    record {
+      rules = m.rules;
+      timing = m.timing;
+      alts = m.alts;
+      ids = m.ids;
+      queries = queries_fed m.queries c;
+      answers = answers_fed m.answers c addresses;
+      services = services_fed m.services c offered;
+      attempts = attempts_fed m.attempts c;
+      retries = retries_fed m.retries c;
+      names = names_fed m.names c names;
+      echs = echs_fed m.echs c echs retry;
+    }

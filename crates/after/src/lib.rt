@@ -1,15 +1,15 @@
 #![tactic(auto)]
 // Each part of the machine after a change. A change that isn't of the part leaves it.
 ghost use Rattle.std.specs.Prelude.{◌<◌, ◌≡◌};
-ghost use Rattle.pacing.specs.Ids.{next_id};
 ghost use Rattle.state.specs.Changes.{first_name, first_ech};
 ghost use Rattle.after.specs.After.{counted, put_query, queries_called, queries_fed, put_attempt, attempts_called, attempts_fed, ids_called, put_retry, retries_fed, put_addresses, answers_fed};
-ghost use Rattle.after.specs.After.{ech_place, placed_at, placed_services, services_fed, put_names, names_fed, put_echs, put_ech, echs_fed, are_zero, bare_names, bare_echs, bare};
+ghost use Rattle.after.specs.After.{ech_place, placed_at, placed_services, services_fed, put_names, names_fed, put_echs, put_ech, echs_fed, are_zero, bare_names, bare_echs, bare, called, fed};
 
 use pacing::id::IdGenerator;
 use records::names::{Ech, EchPlace, Echs, Name, Names};
 use records::queries::{Addresses, Answers, Queries, Query};
-use records::services::{Service, Services, has_ech, no_services};
+use records::services::{Service, Services, no_services};
+use state::Machine;
 use state::attempts::{Attempt, Attempts, Retries};
 use state::changes::{CallChange, InputChange, Round, first_ech, first_name};
 
@@ -29,53 +29,198 @@ fn counted(n: usize, p: usize) -> usize
     requires { p < 32 }
     ensures { result ≡ counted n p }
 {
-    if p < n { n } else { p + 1 }
+    n.max(p + 1)
 }
 
-fn put_query(queries: Queries, p: usize, q: Query) -> Queries
-    ensures { result ≡ put_query queries p q }
+// Something stored in its table. A place outside it, which no change has, stores nothing.
+#[tactic(auto, unfolding(crate::specs::After::put_query))]
+fn put_query(queries: &mut Queries, p: usize, q: Query)
+    ensures { queries.new ≡ put_query queries.old p q }
 {
-    let mut out = queries;
     if p < 16 {
-        let n = counted(out.count, p);
-        out.list[p] = q;
-        out.count = n;
+        queries.list[p] = q;
+        queries.count = counted(queries.count, p);
     }
-    out
 }
 
+#[tactic(auto, unfolding(crate::specs::After::put_attempt))]
+fn put_attempt(attempts: &mut Attempts, p: usize, a: Attempt)
+    ensures { attempts.new ≡ put_attempt attempts.old p a }
+{
+    if p < 32 {
+        attempts.list[p] = a;
+        attempts.count = counted(attempts.count, p);
+    }
+}
+
+// The retry that is number r came for attempt p.
+#[tactic(auto, unfolding(crate::specs::After::put_retry))]
+fn store_retry(retries: &mut Retries, r: usize, p: usize)
+    ensures { retries.new ≡ put_retry retries.old r p }
+{
+    if r < 32 && p < 32 {
+        retries.list[r] = p as u8;
+        retries.count = r + 1;
+    }
+}
+
+#[tactic(auto, unfolding(crate::specs::After::put_addresses))]
+fn put_addresses(answers: &mut Answers, p: usize, l: &Addresses)
+    ensures { answers.new ≡ put_addresses answers.old p l.now }
+{
+    if p < 16 {
+        answers.list[p] = *l;
+    }
+}
+
+// Four names, and four ECH configurations, at the places of their round.
+#[tactic(auto, unfolding(crate::specs::After::put_names), using(crate::proofs::Filling::first_name_room, crate::proofs::Filling::part_stored))]
+fn put_names(names: &mut Names, round: Round, t: &TargetNames)
+    ensures { names.new ≡ put_names names.old round t.now }
+{
+    let first = first_name(round) as usize;
+    names.list[first..first + 4].copy_from_slice(&t.list);
+}
+
+#[tactic(auto, unfolding(crate::specs::After::put_echs), using(crate::proofs::Filling::first_ech_room, crate::proofs::Filling::part_stored))]
+fn put_echs(echs: &mut Echs, round: Round, t: &TargetEchs)
+    ensures { echs.new ≡ put_echs echs.old round t.now }
+{
+    let first = first_ech(round) as usize;
+    echs.list[first..first + 4].copy_from_slice(&t.list);
+}
+
+// The retry that came for attempt p.
+#[tactic(auto, unfolding(crate::specs::After::put_ech))]
+fn put_ech(echs: &mut Echs, p: usize, e: &Ech)
+    ensures { echs.new ≡ put_ech echs.old p e.now }
+{
+    if p < 32 {
+        echs.list[8 + p] = *e;
+    }
+}
+
+// What a call changes: ids, query records and attempts at most.
+pub fn call(m: &mut Machine, change: CallChange)
+    ensures { m.new ≡ called m.old change }
+{
+    match change {
+        CallChange::Nothing => {}
+        CallChange::Asks(p, q) => {
+            let _ = m.ids.take();
+            put_query(&mut m.queries, p, q);
+        }
+        CallChange::Tries(p, a) => {
+            let _ = m.ids.take();
+            put_attempt(&mut m.attempts, p, a);
+        }
+        CallChange::Cancels(p, a) => put_attempt(&mut m.attempts, p, a),
+    }
+}
+
+// What an input changes, with what came beside it: the addresses of an answer; the services, names and ECH bytes of an HTTPS answer, where an
+// ECH place among the services only says that there are bytes; the bytes of an ECH retry.
+pub fn feed(
+    m: &mut Machine,
+    change: InputChange,
+    addresses: &Addresses,
+    offered: &Services,
+    names: &TargetNames,
+    echs: &TargetEchs,
+    retry: &Ech,
+)
+    ensures { m.new ≡ fed m.old change addresses.now offered.now names.now echs.now retry.now }
+{
+    match change {
+        InputChange::Nothing => {}
+        InputChange::Ends(p, a) => put_attempt(&mut m.attempts, p, a),
+        InputChange::Retries(p, a, r) => {
+            put_attempt(&mut m.attempts, p, a);
+            store_retry(&mut m.retries, r, p);
+            put_ech(&mut m.echs, p, retry);
+        }
+        InputChange::Holds(p, q) => {
+            put_query(&mut m.queries, p, q);
+            put_addresses(&mut m.answers, p, addresses);
+        }
+        InputChange::Empties(p, q) => {
+            put_query(&mut m.queries, p, q);
+            m.services = no_services();
+        }
+        InputChange::Offers(p, q, round) => {
+            put_query(&mut m.queries, p, q);
+            m.services = placed_services(*offered, round);
+            put_names(&mut m.names, round, names);
+            put_echs(&mut m.echs, round, echs);
+        }
+    }
+}
+
+fn ech_place(e: EchPlace, p: u8) -> EchPlace
+    ensures { result ≡ ech_place e p }
+{
+    match e {
+        EchPlace::Without => EchPlace::Without,
+        EchPlace::At(_) => EchPlace::At(p),
+    }
+}
+
+// Service i of an answer, with the places of its round.
+fn placed(s: Service, i: u8, round: Round) -> Service
+    requires { i < 4 }
+    ensures { result ≡ placed_at round i s }
+{
+    Service {
+        name: first_name(round) + i,
+        ech: ech_place(s.ech, first_ech(round) + i),
+        ..s
+    }
+}
+
+// The services of an answer, each with the places of its round.
+#[tactic(auto, using(crate::proofs::Filling::placed_end))]
+pub fn placed_services(offered: Services, round: Round) -> Services
+    ensures { result ≡ placed_services offered round }
+{
+    let mut list = no_services().list;
+    let count = offered.count.min(4);
+    for i in 0..count {
+        list[i] = placed(offered.list[i], i as u8, round);
+    }
+    Services { count, list }
+}
+
+// `offered` are the services of the answer; an ECH place among them only says that there are bytes.
+pub fn services_fed(services: Services, change: InputChange, offered: Services) -> Services
+    ensures { result ≡ services_fed services change offered }
+{
+    match change {
+        InputChange::Empties(_, _) => no_services(),
+        InputChange::Offers(_, _, round) => placed_services(offered, round),
+        _ => services,
+    }
+}
+
+// The same of one part at a time, by value.
 pub fn queries_called(queries: Queries, change: CallChange) -> Queries
     ensures { result ≡ queries_called queries change }
 {
+    let mut out = queries;
     match change {
-        CallChange::Nothing => queries,
-        CallChange::Asks(p, q) => put_query(queries, p, q),
-        CallChange::Tries(_, _) => queries,
-        CallChange::Cancels(_, _) => queries,
+        CallChange::Asks(p, q) => put_query(&mut out, p, q),
+        _ => {}
     }
+    out
 }
 
 pub fn queries_fed(queries: Queries, change: InputChange) -> Queries
     ensures { result ≡ queries_fed queries change }
 {
+    let mut out = queries;
     match change {
-        InputChange::Nothing => queries,
-        InputChange::Ends(_, _) => queries,
-        InputChange::Retries(_, _, _) => queries,
-        InputChange::Holds(p, q) => put_query(queries, p, q),
-        InputChange::Empties(p, q) => put_query(queries, p, q),
-        InputChange::Offers(p, q, _) => put_query(queries, p, q),
-    }
-}
-
-fn put_attempt(attempts: Attempts, p: usize, a: Attempt) -> Attempts
-    ensures { result ≡ put_attempt attempts p a }
-{
-    let mut out = attempts;
-    if p < 32 {
-        let n = counted(out.count, p);
-        out.list[p] = a;
-        out.count = n;
+        InputChange::Holds(p, q) | InputChange::Empties(p, q) => put_query(&mut out, p, q),
+        InputChange::Offers(p, q, _) => put_query(&mut out, p, q),
+        _ => {}
     }
     out
 }
@@ -83,44 +228,31 @@ fn put_attempt(attempts: Attempts, p: usize, a: Attempt) -> Attempts
 pub fn attempts_called(attempts: Attempts, change: CallChange) -> Attempts
     ensures { result ≡ attempts_called attempts change }
 {
+    let mut out = attempts;
     match change {
-        CallChange::Nothing => attempts,
-        CallChange::Asks(_, _) => attempts,
-        CallChange::Tries(p, a) => put_attempt(attempts, p, a),
-        CallChange::Cancels(p, a) => put_attempt(attempts, p, a),
+        CallChange::Tries(p, a) | CallChange::Cancels(p, a) => put_attempt(&mut out, p, a),
+        _ => {}
     }
+    out
 }
 
 pub fn attempts_fed(attempts: Attempts, change: InputChange) -> Attempts
     ensures { result ≡ attempts_fed attempts change }
 {
+    let mut out = attempts;
     match change {
-        InputChange::Nothing => attempts,
-        InputChange::Ends(p, a) => put_attempt(attempts, p, a),
-        InputChange::Retries(p, a, _) => put_attempt(attempts, p, a),
-        InputChange::Holds(_, _) => attempts,
-        InputChange::Empties(_, _) => attempts,
-        InputChange::Offers(_, _, _) => attempts,
+        InputChange::Ends(p, a) | InputChange::Retries(p, a, _) => put_attempt(&mut out, p, a),
+        _ => {}
     }
-}
-
-// The generator after one id.
-fn after_id(ids: IdGenerator) -> IdGenerator
-    ensures { result ≡ (next_id ids).ids }
-{
-    let issued = ids.next_id();
-    let after = issued.ids;
-    after
+    out
 }
 
 pub fn ids_called(ids: IdGenerator, change: CallChange) -> IdGenerator
     ensures { result ≡ ids_called ids change }
 {
     match change {
-        CallChange::Nothing => ids,
-        CallChange::Asks(_, _) => after_id(ids),
-        CallChange::Tries(_, _) => after_id(ids),
-        CallChange::Cancels(_, _) => ids,
+        CallChange::Asks(_, _) | CallChange::Tries(_, _) => ids.next_id().ids,
+        _ => ids,
     }
 }
 
@@ -128,34 +260,17 @@ pub fn put_retry(retries: Retries, r: usize, p: usize) -> Retries
     ensures { result ≡ put_retry retries r p }
 {
     let mut out = retries;
-    if r < 32 {
-        if p < 32 {
-            out.list[r] = p as u8;
-            out.count = r + 1;
-        }
-    }
+    store_retry(&mut out, r, p);
     out
 }
 
 pub fn retries_fed(retries: Retries, change: InputChange) -> Retries
     ensures { result ≡ retries_fed retries change }
 {
+    let mut out = retries;
     match change {
-        InputChange::Nothing => retries,
-        InputChange::Ends(_, _) => retries,
-        InputChange::Retries(p, _, r) => put_retry(retries, r, p),
-        InputChange::Holds(_, _) => retries,
-        InputChange::Empties(_, _) => retries,
-        InputChange::Offers(_, _, _) => retries,
-    }
-}
-
-fn put_addresses(answers: Answers, p: usize, l: Addresses) -> Answers
-    ensures { result ≡ put_addresses answers p l }
-{
-    let mut out = answers;
-    if p < 16 {
-        out.list[p] = l;
+        InputChange::Retries(p, _, r) => store_retry(&mut out, r, p),
+        _ => {}
     }
     out
 }
@@ -164,94 +279,10 @@ fn put_addresses(answers: Answers, p: usize, l: Addresses) -> Answers
 pub fn answers_fed(answers: Answers, change: InputChange, addresses: Addresses) -> Answers
     ensures { result ≡ answers_fed answers change addresses }
 {
+    let mut out = answers;
     match change {
-        InputChange::Nothing => answers,
-        InputChange::Ends(_, _) => answers,
-        InputChange::Retries(_, _, _) => answers,
-        InputChange::Holds(p, _) => put_addresses(answers, p, addresses),
-        InputChange::Empties(_, _) => answers,
-        InputChange::Offers(_, _, _) => answers,
-    }
-}
-
-fn ech_place(e: EchPlace, p: u8) -> EchPlace
-    ensures { result ≡ ech_place e p }
-{
-    if has_ech(e) {
-        return EchPlace::At(p);
-    }
-    EchPlace::Without
-}
-
-// Service i of an answer, with the places of its round.
-fn placed(s: Service, i: u8, round: Round) -> Service
-    requires { i < 4 }
-    ensures { result ≡ placed_at round i s }
-{
-    let e = s.ech;
-    let v = s.versions;
-    let p = s.port;
-    let four = s.v4;
-    let six = s.v6;
-    Service {
-        priority: s.priority,
-        name: first_name(round) + i,
-        ech: ech_place(e, first_ech(round) + i),
-        versions: v,
-        port: p,
-        n4: s.n4,
-        v4: four,
-        n6: s.n6,
-        v6: six,
-    }
-}
-
-// The services of an answer, each with the places of its round.
-pub fn placed_services(offered: Services, round: Round) -> Services
-    ensures { result ≡ placed_services offered round }
-{
-    let mut out = no_services();
-    let n = offered.count;
-    let mut i: usize = 0;
-    while i < 4 {
-        if n <= i {
-            return out;
-        }
-        let s = offered.list[i];
-        let t = placed(s, i as u8, round);
-        out.list[i] = t;
-        out.count = i + 1;
-        i += 1;
-    }
-    out
-}
-
-// `offered` are the services of the answer; an ECH place among them only says that there are bytes.
-pub fn services_fed(services: Services, change: InputChange, offered: Services) -> Services
-    ensures { result ≡ services_fed services change offered }
-{
-    match change {
-        InputChange::Nothing => services,
-        InputChange::Ends(_, _) => services,
-        InputChange::Retries(_, _, _) => services,
-        InputChange::Holds(_, _) => services,
-        InputChange::Empties(_, _) => no_services(),
-        InputChange::Offers(_, _, round) => placed_services(offered, round),
-    }
-}
-
-// Four names, and four ECH configurations, at the places of their round.
-fn put_names(names: Names, round: Round, t: TargetNames) -> Names
-    ensures { result ≡ put_names names round t }
-{
-    let mut out = names;
-    let first = first_name(round) as usize;
-    let mut i: usize = 0;
-    while i < 4 {
-        let n = t.list[i];
-        let p = first + i;
-        out.list[p] = n;
-        i += 1;
+        InputChange::Holds(p, _) => put_addresses(&mut out, p, &addresses),
+        _ => {}
     }
     out
 }
@@ -259,39 +290,10 @@ fn put_names(names: Names, round: Round, t: TargetNames) -> Names
 pub fn names_fed(names: Names, change: InputChange, targets: TargetNames) -> Names
     ensures { result ≡ names_fed names change targets }
 {
+    let mut out = names;
     match change {
-        InputChange::Nothing => names,
-        InputChange::Ends(_, _) => names,
-        InputChange::Retries(_, _, _) => names,
-        InputChange::Holds(_, _) => names,
-        InputChange::Empties(_, _) => names,
-        InputChange::Offers(_, _, round) => put_names(names, round, targets),
-    }
-}
-
-fn put_echs(echs: Echs, round: Round, t: TargetEchs) -> Echs
-    ensures { result ≡ put_echs echs round t }
-{
-    let mut out = echs;
-    let first = first_ech(round) as usize;
-    let mut i: usize = 0;
-    while i < 4 {
-        let e = t.list[i];
-        let p = first + i;
-        out.list[p] = e;
-        i += 1;
-    }
-    out
-}
-
-// The retry that came for attempt p.
-fn put_ech(echs: Echs, p: usize, e: Ech) -> Echs
-    ensures { result ≡ put_ech echs p e }
-{
-    let mut out = echs;
-    if p < 32 {
-        let q = 8 + p;
-        out.list[q] = e;
+        InputChange::Offers(_, _, round) => put_names(&mut out, round, &targets),
+        _ => {}
     }
     out
 }
@@ -299,34 +301,25 @@ fn put_ech(echs: Echs, p: usize, e: Ech) -> Echs
 pub fn echs_fed(echs: Echs, change: InputChange, targets: TargetEchs, retry: Ech) -> Echs
     ensures { result ≡ echs_fed echs change targets retry }
 {
+    let mut out = echs;
     match change {
-        InputChange::Nothing => echs,
-        InputChange::Ends(_, _) => echs,
-        InputChange::Retries(p, _, _) => put_ech(echs, p, retry),
-        InputChange::Holds(_, _) => echs,
-        InputChange::Empties(_, _) => echs,
-        InputChange::Offers(_, _, round) => put_echs(echs, round, targets),
+        InputChange::Retries(p, _, _) => put_ech(&mut out, p, &retry),
+        InputChange::Offers(_, _, round) => put_echs(&mut out, round, &targets),
+        _ => {}
     }
+    out
 }
 
+#[tactic(auto, unfolding(crate::specs::After::are_zero))]
 fn are_zero(a: usize, b: usize, c: usize, d: usize) -> bool
     ensures { result ≡ are_zero a b c d }
 {
-    if a != 0 {
-        return false;
-    }
-    if b != 0 {
-        return false;
-    }
-    if c != 0 {
-        return false;
-    }
-    d == 0
+    a == 0 && b == 0 && c == 0 && d == 0
 }
 
-// The places are constants: at a computed one the whole table would be copied to read a length.
-fn are_names_bare(names: Names, round: Round) -> bool
-    ensures { result ≡ bare_names names (first_name round) }
+#[tactic(auto, unfolding(crate::specs::After::bare_names, records::specs::Names::name_at))]
+fn are_names_bare(names: &Names, round: Round) -> bool
+    ensures { result ≡ bare_names names.now (first_name round) }
 {
     match round {
         Round::First => are_zero(
@@ -344,8 +337,9 @@ fn are_names_bare(names: Names, round: Round) -> bool
     }
 }
 
-fn are_echs_bare(echs: Echs, round: Round) -> bool
-    ensures { result ≡ bare_echs echs (first_ech round) }
+#[tactic(auto, unfolding(crate::specs::After::bare_echs, records::specs::Names::ech_at))]
+fn are_echs_bare(echs: &Echs, round: Round) -> bool
+    ensures { result ≡ bare_echs echs.now (first_ech round) }
 {
     match round {
         Round::First => are_zero(
@@ -364,11 +358,9 @@ fn are_echs_bare(echs: Echs, round: Round) -> bool
 }
 
 // Whether the places of a round hold no bytes.
+#[tactic(auto, unfolding(crate::specs::After::bare))]
 pub fn is_bare(names: Names, echs: Echs, round: Round) -> bool
     ensures { result ≡ bare names echs round }
 {
-    if !are_names_bare(names, round) {
-        return false;
-    }
-    are_echs_bare(echs, round)
+    are_names_bare(&names, round) && are_echs_bare(&echs, round)
 }

@@ -1,12 +1,10 @@
 -- Laws of the saturating power and product.
 --     one_power, past-cap     a multiplier of at most 1, an exponent of at least 32
---     step, full, done        the loop of `power`: one turn, a turn that passes the cap, the end
---     fits                    a product of two numbers of 32 bits fits 64
---     nothing, within, beyond the product: by 0, below the cap, above it
---     power_of_one, power_of_many, product_within, product_beyond     what `power` and `product` return, of the definitions
-use Rattle.std.proofs.Common.{◌≡◌, ℕ, zero, suc, ◌-◌, ◌*◌, ◌/◌, ◌^◌, ◌<◌, ◌≤◌, min, max, sym, refl, ◌∙◌, lt_of_le_of_lt, le_of_lt, mul_assoc, div-lt_iff_lt-mul, mul-le-mul_left, mul-lt-mul_of_pos_right, mul-zero, le-div_iff_mul-le, mul-one, arith, pow_pos, pow_mono, w64, Fits}
+--     power_cut, product_cut  what `power` and `product` return, of the definitions
+use Rattle.std.proofs.Common.{◌≡◌, ℕ, zero, suc, ◌-◌, ◌*◌, ◌^◌, ◌<◌, ◌≤◌, min, max, sym, refl, ◌∙◌, arith, pow_mono}
+use native.Mathlib.Decide.{dec_lt}
 use Rattle.pacing.specs.Pacing.{power_of, product_of}
-use native.Mathlib.Nat.{one-le-pow, pow-le-pow_left, pow-zero, pow-succ', min-eq_left, min-eq_right}
+use native.Mathlib.Nat.{pow-le-pow_left, pow-zero, pow-succ', min-eq_left}
 
 one-pow : (e : ℕ) → 1 ^ e ≡ 1
 one-pow zero = pow-zero 1
@@ -21,56 +19,23 @@ past-cap m e h l =
     let b : 2 ^ e ≤ max 1 m ^ e = pow-le-pow_left (omega arith) e in
     sym (min-eq_left (omega arith))
 
--- a multiplier above 1 counts as itself
-pub itself : {t : ℕ} (cap m e : ℕ) → 1 < m → t ≡ min cap (m ^ e) → t ≡ min cap (max 1 m ^ e)
-itself cap m e h i = let o : max 1 m ≡ m = omega arith in rw o i
-
--- one turn: a factor goes from the power to the product
-pub step : {t : ℕ} (p m k : ℕ) → 0 < k → p * m ^ k ≡ t → (p * m) * m ^ (k - 1) ≡ t
-step p m zero h e = absurd (omega arith)
-step p m (suc k) h e = let q : suc k - 1 ≡ k = omega arith in rw (q, mul_assoc, ← pow-succ') e
-
--- a positive multiple of what is past the cap is past the cap
-pub full : {t : ℕ} (cap p m k : ℕ) → cap < p * m → (p * m) * m ^ (k - 1) ≡ t → cap ≡ min cap t
-full cap p zero k h e = absurd (let z = mul-zero p in omega arith)
-full cap p (suc m) k h e =
-    let one : 1 ≤ suc m ^ (k - 1) = one-le-pow (k - 1) (suc m) (omega arith) in
-    let le : p * suc m ≤ p * suc m * suc m ^ (k - 1) = rw mul-one at (mul-le-mul_left (p * suc m) one) in
-    sym (min-eq_left (omega arith))
-
-pub done : {t : ℕ} (cap p m k : ℕ) → k ≤ 0 → p ≤ cap → p * m ^ k ≡ t → p ≡ min cap t
-done cap p m zero h l e = let q : p ≡ _ = rw (pow-zero, mul-one) at e in sym (min-eq_right (omega arith) ∙ sym q)
-done cap p m (suc k) h l e = absurd (omega arith)
-
-pub fits : {a b : ℕ} → a < 2 ^ 32 → b < 2 ^ 32 → Fits w64 (a * b)
-fits {a} {b} ha hb =
-    record { fits = lt_of_le_of_lt (mul-le-mul_left a (le_of_lt hb)) (mul-lt-mul_of_pos_right ha (pow_pos 32)) }
-
-positive : {g : ℕ} → (g ≡ 0 → ⊥) → 0 < g
-positive {g} n = omega (arith, n)
-
-pub nothing : (cap d g : ℕ) → g ≡ 0 → 0 ≡ min cap (d * g)
-nothing cap d g e = sym (rw (e, mul-zero) (min-eq_right (omega arith)))
-
-pub within : (cap d g : ℕ) → (g ≡ 0 → ⊥) → d ≤ cap / g → d * g ≤ cap
-within cap d g n h = (le-div_iff_mul-le (positive n)).0 h
-
-pub beyond : (cap d g : ℕ) → (g ≡ 0 → ⊥) → cap / g < d → cap ≡ min cap (d * g)
-beyond cap d g n h = sym (min-eq_left (le_of_lt ((div-lt_iff_lt-mul (positive n)).0 h)))
-
--- the cases of both definitions, over any test that says as much
-pub power_of_one : (m e : ℕ) → m ≤ 1 → power_of m e ≡ 1
+-- an exponent cut at 32 gives the same
+pub power_cut : (m n : ℕ) → min (max m 1 ^ min n 32) (2 ^ 32 - 1) ≡ power_of m n
 unfolding power_of
-power_of_one m e l = sym (one_power _ m e (omega arith) l)
+power_cut m n = elim (dec_lt n 32) [ yes h ↦ below h | no h ↦ elim (dec_lt 1 m) [ yes k ↦ many k (omega arith) | no k ↦ one (omega arith) ] ]
+  where
+    turned : (e : ℕ) → min (max m 1 ^ e) (2 ^ 32 - 1) ≡ min (2 ^ 32 - 1) (max 1 m ^ e)
+    turned e = let o : max m 1 ≡ max 1 m = omega arith in rw o (omega arith)
 
-pub power_of_many : (m e : ℕ) → 1 < m → 32 ≤ e → power_of m e ≡ 2 ^ 32 - 1
-unfolding power_of
-power_of_many m e h l = sym (past-cap m e h l)
+    below : n < 32 → min (max m 1 ^ min n 32) (2 ^ 32 - 1) ≡ min (2 ^ 32 - 1) (max 1 m ^ n)
+    below h = let e : min n 32 ≡ n = omega arith in rw e (turned n)
 
-pub product_within : (d g : ℕ) → 0 < g → d ≤ (2 ^ 64 - 1) / g → product_of d g ≡ d * g
+    many : 1 < m → 32 ≤ n → min (max m 1 ^ min n 32) (2 ^ 32 - 1) ≡ min (2 ^ 32 - 1) (max 1 m ^ n)
+    many k h = let e : min n 32 ≡ 32 = omega arith in rw e (turned 32 ∙ (sym (past-cap m 32 k (omega arith)) ∙ past-cap m n k h))
+
+    one : m ≤ 1 → min (max m 1 ^ min n 32) (2 ^ 32 - 1) ≡ min (2 ^ 32 - 1) (max 1 m ^ n)
+    one l = turned (min n 32) ∙ (sym (one_power (2 ^ 32 - 1) m (min n 32) (omega arith) l) ∙ one_power (2 ^ 32 - 1) m n (omega arith) l)
+
+pub product_cut : (d f : ℕ) → min (d * f) (2 ^ 64 - 1) ≡ product_of d f
 unfolding product_of
-product_within d g h l = min-eq_right (within _ d g (λ e. omega arith) l)
-
-pub product_beyond : (d g : ℕ) → 0 < g → (2 ^ 64 - 1) / g < d → product_of d g ≡ 2 ^ 64 - 1
-unfolding product_of
-product_beyond d g h l = sym (beyond _ d g (λ e. omega arith) l)
+product_cut d f = omega arith

@@ -21,14 +21,22 @@ impl IdGenerator {
         Self { next: 0 }
     }
 
+    // The next id.
+    pub fn take(&mut self) -> u64
+        ensures id { result ≡ (next_id self.old).id }
+        ensures ids { self.new ≡ (next_id self.old).ids }
+    {
+        let id = self.next;
+        self.next = id.wrapping_add(1);
+        id
+    }
+
+    // The same by value.
     pub fn next_id(self) -> Issued
         ensures { result ≡ next_id self }
     {
-        let id = self.next;
-        let after = std::num::wrapping_add_u64(id, 1);
-        Issued {
-            id: id,
-            ids: IdGenerator { next: after },
-        }
+        let mut ids = self;
+        let id = ids.take();
+        Issued { id, ids }
     }
 }

@@ -1,2 +1,2 @@
--- Laws that several proofs, and the crates above, cite.
+-- Laws that the proofs cite.
 pub mod Putting

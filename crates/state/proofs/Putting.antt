@@ -1,70 +1,24 @@
--- Bytes one after the other in the room of a name, as far as there is room; digits in theirs.
-use Prim.Native.Nat.{ℕ, zero, suc, ◌+◌, ◌-◌, ◌≤◌, ◌<◌}
+-- Bytes behind those of a name, as far as there is room.
+use Prim.Native.Nat.{ℕ, zero, suc, ◌+◌, ◌-◌, ◌≤◌, ◌<◌, min}
 use mathlib.Core.Path.{◌≡◌, refl, sym, ap, ◌∙◌}
 use mathlib.Core.List.{List, [], ◌∷◌, ◌++◌, append_assoc, append-nil}
-use native.Mathlib.Numerals.{add-one}
 use native.Mathlib.Omega.{arith}
-use lib.ListN.{length, take, drop, get_or, set, length-append, length-take, take-append-drop, replicate, length-replicate}
-use lib.Seq.{take-suc, take_all, take-append-le, length-take-le}
+use lib.ListN.{length, take, drop, length-append, length-take, replicate}
+use borrow.Rule.Slice.PartMut.{put_mid}
+use Rattle.std.proofs.Math.Seq.{take-append-add}
+use Rattle.std.proofs.lemmas.List.{drop_at, drop-replicate}
 use Rattle.records.specs.Lists.{padded}
-use Rattle.state.specs.Https.{decimal, digits_in, Stands}
+use Rattle.records.specs.Names.{no_name, name_bytes}
+use Rattle.records.specs.declared.names.Name.{Name}
+use Rattle.state.specs.Https.{decimal, digits_in, name_in}
 use Rattle.state.specs.declared.https.Digits.{Digits}
-use Rattle.records.proofs.Rooms.{padded-set, padded-take}
+use Rattle.records.proofs.Rooms.{padded-take}
+use Rattle.records.proofs.Bytes.{cut_take}
 
--- how far the code has come with bs behind xs
-pub record Putting (xs bs : List ℕ) (i p : ℕ) (out : List ℕ) : Type 0 where
-  pub within : i ≤ length bs
-  pub place : p ≡ length (take 253 (xs ++ take i bs))
-  pub holds : out ≡ padded 253 0 (take 253 (xs ++ take i bs))
-
-putting-none : (xs bs : List ℕ) (at : ℕ) (out : List ℕ) → length xs ≡ at → at ≤ 253 → out ≡ padded 253 0 xs → Putting xs bs 0 at out
-putting-none xs bs at out e h p =
-    let f : take 253 (xs ++ []) ≡ xs = ap (take 253) (append-nil xs) ∙ take_all 253 xs (omega arith) in
-    record { within = omega arith; place = sym (ap length f ∙ e); holds = p ∙ ap (padded 253 0) (sym f) }
-
--- a room that is zero past its first bytes is whole
-room-long : (at : ℕ) (out : List ℕ) → at ≤ 253 → out ≡ padded 253 0 (take at out) → length out ≡ 253
-unfolding padded
-room-long at out h e =
-    let f : length out ≡ length (take at out) + (253 - length (take at out)) = ap length e ∙ (length-append (take at out) (replicate (253 - length (take at out)) 0) ∙ ap (λ n. length (take at out) + n) (length-replicate (253 - length (take at out)) 0)) in
-    omega (arith, length-take at out)
-
-pub putting-start : (bs : List ℕ) (at : ℕ) (out : List ℕ) → at ≤ 253 → out ≡ padded 253 0 (take at out) → Putting (take at out) bs 0 at out
-putting-start bs at out h e = putting-none (take at out) bs at out (length-take-le at out (omega (arith, room-long at out h e))) h e
-
-module _ (xs bs : List ℕ) (i p : ℕ) (out : List ℕ) (v : Putting xs bs i p out) where
-  short : p < 253 → take 253 (xs ++ take i bs) ≡ xs ++ take i bs
-  short h = take_all 253 (xs ++ take i bs) (omega (arith, v.place, length-take 253 (xs ++ take i bs)))
-
-  pub putting-more : i < length bs → p < 253 → Putting xs bs (i + 1) (p + 1) (set out p (get_or bs i 0))
-  putting-more h r =
-      let ys = xs ++ take i bs in
-      let e : xs ++ take (i + 1) bs ≡ ys ++ (get_or bs i 0 ∷ []) = ap (λ k. xs ++ take k bs) (add-one i) ∙ (ap (λ l. xs ++ l) (take-suc bs i 0 h) ∙ sym (append_assoc xs (take i bs) (get_or bs i 0 ∷ []))) in
-      let q : p ≡ length ys = v.place ∙ ap length (short r) in
-      let w : take 253 (xs ++ take (i + 1) bs) ≡ ys ++ (get_or bs i 0 ∷ []) = ap (take 253) e ∙ take_all 253 (ys ++ (get_or bs i 0 ∷ [])) (omega (arith, length-append ys (get_or bs i 0 ∷ []))) in
-      record {
-        within = omega arith;
-        place = sym (ap length w ∙ (length-append ys (get_or bs i 0 ∷ []) ∙ ap (λ k. k + 1) (sym q)));
-        holds =
-            ap (λ l. set l p (get_or bs i 0)) (v.holds ∙ ap (padded 253 0) (short r))
-            ∙ (ap (λ k. set (padded 253 0 ys) k (get_or bs i 0)) q ∙ (padded-set 0 253 ys (get_or bs i 0) (omega arith) ∙ ap (padded 253 0) (sym w)));
-      }
-
-  pub putting-end : length bs ≤ i → Stands (xs ++ bs) p out
-  putting-end h = let e : take i bs ≡ bs = take_all i bs h in (v.place ∙ ap (λ l. length (take 253 (xs ++ l))) e, v.holds ∙ ap (λ l. padded 253 0 (take 253 (xs ++ l))) e)
-
-  -- where the room is full the rest is cut
-  pub putting-full : 253 ≤ p → Stands (xs ++ bs) p out
-  putting-full h =
-      let e : take 253 (xs ++ take i bs) ≡ take 253 (xs ++ bs) = sym (ap (λ l. take 253 (xs ++ l)) (sym (take-append-drop i bs)) ∙ (ap (take 253) (sym (append_assoc xs (take i bs) (drop i bs))) ∙ take-append-le 253 (xs ++ take i bs) (drop i bs) (omega (arith, v.place, length-take 253 (xs ++ take i bs))))) in
-      (v.place ∙ ap length e, v.holds ∙ ap (padded 253 0) e)
-
--- what stands in the room, read back
-pub front : (zs out : List ℕ) (p : ℕ) → p ≡ length zs → out ≡ padded 253 0 zs → take p out ≡ zs
-front zs out p e h = ap (λ k. take k out) e ∙ (ap (take (length zs)) h ∙ padded-take 0 253 zs)
-
-pub may-put : (zs out : List ℕ) (p : ℕ) → Stands zs p out → (p ≤ 253) × (out ≡ padded 253 0 (take p out))
-may-put zs out p h = (omega (arith, h.0, length-take 253 zs), h.1 ∙ ap (padded 253 0) (sym (front (take 253 zs) out p h.0 h.1)))
+-- a name holds what was put, cut at the room
+held : (zs : List ℕ) → name_bytes (name_in zs) ≡ take 253 zs
+unfolding name_bytes name_in
+held zs = padded-take 0 253 (take 253 zs)
 
 -- cutting twice is cutting once
 take-front : (n : ℕ) (a b : List ℕ) → take n (take n a ++ b) ≡ take n (a ++ b)
@@ -72,20 +26,84 @@ take-front zero a b = refl
 take-front (suc n) [] b = refl
 take-front (suc n) (x ∷ a) b = ap (λ l. x ∷ l) (take-front n a b)
 
--- one more put behind what stands
-pub put_on : (zs bs out out' : List ℕ) (p q : ℕ) → Stands zs p out → Stands (take p out ++ bs) q out' → Stands (zs ++ bs) q out'
-put_on zs bs out out' p q h k =
-    let f : take 253 (take p out ++ bs) ≡ take 253 (zs ++ bs) = ap (λ l. take 253 (l ++ bs)) (front (take 253 zs) out p h.0 h.1) ∙ take-front 253 zs bs in
-    (k.0 ∙ ap length f, k.1 ∙ ap (padded 253 0) f)
+in_on : (zs bs : List ℕ) → name_in (name_bytes (name_in zs) ++ bs) ≡ name_in (zs ++ bs)
+unfolding name_in
+in_on zs bs =
+    let e : take 253 (name_bytes (name_in zs) ++ bs) ≡ take 253 (zs ++ bs) = ap (λ l. take 253 (l ++ bs)) (held zs) ∙ take-front 253 zs bs in
+    λ j. record { len = length (e j); bytes = padded 253 0 (e j) }
+
+none_in : no_name ≡ name_in []
+unfolding no_name name_in padded
+none_in = refl
+
+-- what a name holds after one more put
+pub begun : (x y : Name) (bs : List ℕ) → x ≡ no_name → y ≡ name_in (name_bytes x ++ bs) → y ≡ name_in bs
+begun x y bs e h = h ∙ (ap (λ n. name_in (name_bytes n ++ bs)) (e ∙ none_in) ∙ in_on [] bs)
+
+pub put_next : (x y : Name) (zs bs : List ℕ) → x ≡ name_in zs → y ≡ name_in (name_bytes x ++ bs) → y ≡ name_in (zs ++ bs)
+put_next x y zs bs e h = h ∙ (ap (λ n. name_in (name_bytes n ++ bs)) e ∙ in_on zs bs)
+
+-- what was put may be put on
+pub again : (x : Name) (zs : List ℕ) → x ≡ name_in zs → x ≡ name_in (name_bytes x)
+again x zs e =
+    let w : name_in (name_bytes (name_in zs)) ≡ name_in zs = ap name_in (sym (append-nil (name_bytes (name_in zs)))) ∙ (in_on zs [] ∙ ap name_in (append-nil zs)) in
+    e ∙ (sym w ∙ ap (λ n. name_in (name_bytes n)) (sym e))
+
+pub again_none : (x : Name) → x ≡ no_name → x ≡ name_in (name_bytes x)
+again_none x e = again x [] (e ∙ none_in)
+
+pub fits : (x : Name) → x ≡ name_in (name_bytes x) → x.len ≤ 253
+unfolding name_in
+fits x e = omega (arith, ap (λ y. y.len) e, length-take 253 (name_bytes x))
 
 -- the digits of a port, read back from their room
-module _ (d : Digits) (port : ℕ) (e : d ≡ digits_in (decimal 5 port)) where
-  pub digits-front : take d.count d.list ≡ decimal 5 port
-  unfolding digits_in
-  digits-front = ap (λ x. take x.count x.list) e ∙ padded-take 0 5 (decimal 5 port)
+pub digits_front : (d : Digits) (port : ℕ) → d ≡ digits_in (decimal 5 port) → take d.count d.list ≡ decimal 5 port
+unfolding digits_in
+digits_front d port e = ap (λ x. take x.count x.list) e ∙ padded-take 0 5 (decimal 5 port)
 
-  pub digits-fit : d.count ≤ length d.list
-  unfolding digits_in padded
-  digits-fit =
-      let f : length d.list ≡ length (decimal 5 port) + length {A = ℕ} (replicate (5 - length (decimal 5 port)) 0) = ap (λ x. length x.list) e ∙ length-append (decimal 5 port) (replicate (5 - length (decimal 5 port)) 0) in
-      omega (arith, ap (λ x. x.count) e)
+-- of what is put, as much as there is room for
+pub put_in : (x : Name) (bs : List ℕ) (n end k : ℕ) (ys : List ℕ) → x ≡ name_in (name_bytes x) → n ≡ min (length bs) (253 - x.len) → end ≡ x.len + n → k ≡ n → ys ≡ take n bs → record { len = end; bytes = put_mid x.len k x.bytes ys } ≡ name_in (name_bytes x ++ bs)
+unfolding name_in name_bytes padded
+put_in x bs n end k ys h m e l y = λ j. record { len = long j; bytes = whole j }
+  where
+    zs : List ℕ
+    zs = name_bytes x
+
+    short : zs ≡ take 253 zs
+    short = ap name_bytes h ∙ held zs
+
+    size : x.len ≡ length zs
+    size = ap (λ y. y.len) h ∙ ap length (sym short)
+
+    room : length zs ≤ 253
+    room = omega (arith, ap length short, length-take 253 zs)
+
+    bytes : x.bytes ≡ zs ++ replicate (253 - length zs) 0
+    bytes = ap (λ y. y.bytes) h ∙ ap (λ l. l ++ replicate (253 - length l) 0) (sym short)
+
+    cut : take 253 (zs ++ bs) ≡ zs ++ take n bs
+    cut =
+        let e : 253 ≡ length zs + (253 - length zs) = omega (arith, room) in
+        let q : n ≡ min (253 - length zs) (length bs) = omega (arith, m, size) in
+        ap (λ i. take i (zs ++ bs)) e ∙ (take-append-add zs bs (253 - length zs) ∙ ap (λ l. zs ++ l) (sym (cut_take (253 - length zs) (length bs) bs refl) ∙ ap (λ i. take i bs) (sym q)))
+
+    part : length (take n bs) ≡ n
+    part = length-take n bs ∙ omega (arith, m)
+
+    both : length (zs ++ take n bs) ≡ length zs + n
+    both = length-append zs (take n bs) ∙ ap (λ i. length zs + i) part
+
+    long : end ≡ length (take 253 (zs ++ bs))
+    long = e ∙ (ap (λ i. i + n) size ∙ (sym both ∙ ap length (sym cut)))
+
+    rest : drop k (drop x.len x.bytes) ≡ replicate (253 - length (zs ++ take n bs)) 0
+    rest =
+        let f : 253 - length zs - k ≡ 253 - length (zs ++ take n bs) = omega (arith, both, l) in
+        ap (λ b. drop k (drop x.len b)) bytes
+        ∙ (ap (drop k) (drop_at zs (replicate (253 - length zs) 0) x.len (sym size)) ∙ (drop-replicate k (253 - length zs) 0 ∙ ap (λ i. replicate i 0) f))
+
+    whole : put_mid x.len k x.bytes ys ≡ padded 253 0 (take 253 (zs ++ bs))
+    whole =
+        ap (λ r. zs ++ (ys ++ r)) rest
+        ∙ (ap (λ y. zs ++ (y ++ replicate (253 - length (zs ++ take n bs)) 0)) y
+        ∙ (sym (append_assoc zs (take n bs) (replicate (253 - length (zs ++ take n bs)) 0)) ∙ ap (λ w. w ++ replicate (253 - length w) 0) (sym cut)))

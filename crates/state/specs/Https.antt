@@ -1,5 +1,5 @@
 -- The HTTPS name (document 01, part 5; RFC 9460, section 2.3).
-use Rattle.std.specs.Prelude.{ℕ, zero, suc, ◌+◌, ◌/◌, ◌%◌, ◌≡◌, cond, List, [], ◌∷◌, ◌++◌, nat_lt, length, take}
+use Rattle.std.specs.Prelude.{ℕ, zero, suc, ◌+◌, ◌/◌, ◌%◌, cond, List, [], ◌∷◌, ◌++◌, nat_lt, length, take}
 use Rattle.records.specs.Lists.{padded}
 use Rattle.records.specs.declared.names.Name.{Name}
 use Rattle.state.specs.declared.https.Digits.{Digits}
@@ -27,7 +27,3 @@ digits_in ds = record { count = length ds; list = padded 5 0 ds }
 -- bytes in the room of a name, cut at the room
 unfoldable pub name_in : List ℕ → Name
 name_in bs = record { len = length (take 253 bs); bytes = padded 253 0 (take 253 bs) }
-
--- p bytes stand in the room of a name: bs, cut at the room
-abbrev pub Stands : List ℕ → ℕ → List ℕ → Type 0
-Stands bs p out = (p ≡ length (take 253 bs)) × (out ≡ padded 253 0 (take 253 bs))

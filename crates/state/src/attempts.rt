@@ -39,26 +39,26 @@ pub struct Retries {
 pub fn no_attempt() -> Attempt
     ensures { result ≡ no_attempt }
 {
-    let e = no_endpoint();
     Attempt {
         id: 0,
-        endpoint: e,
+        endpoint: no_endpoint(),
         started: 0,
         state: State::InProgress,
         retry: false,
     }
 }
 
+#[tactic(auto, unfolding(crate::specs::State::no_attempts))]
 pub fn no_attempts() -> Attempts
     ensures { result ≡ no_attempts }
 {
-    let a = no_attempt();
     Attempts {
         count: 0,
-        list: [a; 32],
+        list: [no_attempt(); 32],
     }
 }
 
+#[tactic(auto, unfolding(crate::specs::State::no_retries))]
 pub fn no_retries() -> Retries
     ensures { result ≡ no_retries }
 {
@@ -71,23 +71,13 @@ pub fn no_retries() -> Retries
 pub fn is_open(s: State) -> bool
     ensures { result ≡ is_open s }
 {
-    match s {
-        State::InProgress => true,
-        State::Succeeded => false,
-        State::Failed => false,
-        State::Cancelled => false,
-    }
+    matches!(s, State::InProgress)
 }
 
 pub fn has_won(s: State) -> bool
     ensures { result ≡ has_won s }
 {
-    match s {
-        State::InProgress => false,
-        State::Succeeded => true,
-        State::Failed => false,
-        State::Cancelled => false,
-    }
+    matches!(s, State::Succeeded)
 }
 
 // An attempt that begins.
@@ -107,12 +97,5 @@ pub fn new_attempt(id: u64, endpoint: Endpoint, now: u64, retry: bool) -> Attemp
 pub fn with_state(a: Attempt, state: State) -> Attempt
     ensures { result ≡ with_state a state }
 {
-    let e = a.endpoint;
-    Attempt {
-        id: a.id,
-        endpoint: e,
-        started: a.started,
-        state,
-        retry: a.retry,
-    }
+    Attempt { state, ..a }
 }

@@ -1,10 +1,9 @@
 // (H) The HTTPS name: `_PORT._https.` before the origin (RFC 9460), unless the port is 443.
-ghost use Rattle.std.specs.Prelude.{◌+◌, ◌%◌, ◌≤◌, ◌≡◌, ◌++◌, take};
-ghost use Rattle.records.specs.Lists.{padded};
+ghost use Rattle.std.specs.Prelude.{◌+◌, ◌%◌, ◌≡◌, ◌++◌, take};
 ghost use Rattle.records.specs.Names.{name_bytes};
-ghost use Rattle.state.specs.Https.{decimal, digits_in, prefixed, name_in, Stands};
+ghost use Rattle.state.specs.Https.{decimal, digits_in, prefixed, name_in};
 
-use records::names::{Name, name_len};
+use records::names::{Name, no_name};
 
 // A port in decimal.
 #[derive(Clone, Copy)]
@@ -13,12 +12,22 @@ pub struct Digits {
     pub list: [u8; 5],
 }
 
+impl Digits {
+    #[tactic(auto, using(records::proofs::Bytes::cut_take))]
+    fn as_bytes(&self) -> &[u8]
+        ensures { result.now ≡ take self.now.count self.now.list }
+    {
+        &self.list[..self.count.min(5)]
+    }
+}
+
 fn digit(v: u16) -> u8
     ensures { result ≡ 48 + v % 10 }
 {
     48 + (v % 10) as u8
 }
 
+#[tactic(auto, unfolding(crate::specs::Https::decimal, crate::specs::Https::digits_in, records::specs::Lists::padded))]
 fn digits_of(port: u16) -> Digits
     ensures { result ≡ digits_in (decimal 5 port) }
 {
@@ -56,37 +65,26 @@ fn digits_of(port: u16) -> Digits
     }
 }
 
-// Puts the bytes behind the first `at`, as far as there is room, and gives the place after them.
-fn put(out: &mut [u8; 253], at: usize, bytes: &[u8]) -> usize
-    requires { (at ≤ 253) × (out.old ≡ padded 253 0 (take at out.old)) }
-    ensures { Stands (take at out.old ++ bytes.now) result out.new }
+// Puts the bytes behind those of the name, as far as there is room.
+#[tactic(auto, using(crate::proofs::Putting::fits, crate::proofs::Putting::put_in))]
+fn push(name: &mut Name, bytes: &[u8])
+    requires { name.old ≡ name_in (name_bytes name.old) }
+    ensures { name.new ≡ name_in (name_bytes name.old ++ bytes.now) }
 {
-    let mut p = at;
-    let mut i: usize = 0;
-    while i < bytes.len() {
-        if 253 <= p {
-            return p;
-        }
-        out[p] = bytes[i];
-        p += 1;
-        i += 1;
-    }
-    p
+    let n = bytes.len().min(253 - name.len);
+    let end = name.len + n;
+    name.bytes[name.len..end].copy_from_slice(&bytes[..n]);
+    name.len = end;
 }
 
 // `_PORT._https.` and the name. An origin's name has at most 239 bytes, so all of it fits.
 pub fn https_name(port: u16, origin: Name) -> Name
     ensures { result ≡ name_in (prefixed port (name_bytes origin)) }
 {
-    let d = digits_of(port);
-    let list = d.list;
-    let count = d.count;
-    let name = origin.bytes;
-    let n = name_len(origin);
-    let mut bytes = [0u8; 253];
-    let p = put(&mut bytes, 0, b"_");
-    let q = put(&mut bytes, p, &list[..count]);
-    let r = put(&mut bytes, q, b"._https.");
-    let len = put(&mut bytes, r, &name[..n]);
-    Name { len, bytes }
+    let mut name = no_name();
+    push(&mut name, b"_");
+    push(&mut name, digits_of(port).as_bytes());
+    push(&mut name, b"._https.");
+    push(&mut name, origin.as_bytes());
+    name
 }

@@ -35,42 +35,34 @@ pub struct Machine {
 fn is_prefixed(rules: Rules) -> bool
     ensures { result ≡ is_prefixed rules }
 {
-    let h = rules.host;
-    if rules.port == 443 {
-        return false;
-    }
-    is_named(h)
+    rules.port != 443 && is_named(rules.host)
 }
 
 // The names at the making: those of the configuration, at places 0 to 4, and the HTTPS name where it has a prefix.
+#[tactic(auto, unfolding(crate::specs::State::first_names, records::specs::Names::name_at))]
 fn first_names(rules: Rules, names: Names) -> Names
     ensures { result ≡ first_names rules names }
 {
-    if !is_prefixed(rules) {
-        return names;
-    }
     let mut out = names;
-    let origin = out.list[0];
-    let n = https_name(rules.port, origin);
-    out.list[13] = n;
+    if is_prefixed(rules) {
+        out.list[13] = https_name(rules.port, names.list[0]);
+    }
     out
 }
 
 // The place of the HTTPS name.
+#[tactic(auto, unfolding(crate::specs::State::https_place))]
 pub fn https_place(rules: Rules) -> u8
     ensures { result ≡ https_place rules }
 {
-    if is_prefixed(rules) {
-        return 13;
-    }
-    0
+    if is_prefixed(rules) { 13 } else { 0 }
 }
 
 // A machine before any event. Of the names only places 0 to 4 are filled.
+#[tactic(auto, unfolding(crate::specs::State::made))]
 pub fn made(rules: Rules, timing: Timing, alts: Alts, names: Names) -> Machine
     ensures { result ≡ made rules timing alts names }
 {
-    let all = first_names(rules, names);
     Machine {
         rules,
         timing,
@@ -81,7 +73,7 @@ pub fn made(rules: Rules, timing: Timing, alts: Alts, names: Names) -> Machine
         services: no_services(),
         attempts: no_attempts(),
         retries: no_retries(),
-        names: all,
+        names: first_names(rules, names),
         echs: no_echs(),
     }
 }
