@@ -146,10 +146,7 @@ impl Table {
     pub fn winner(&self) -> Option<(usize, Asked)> {
         let mut best: Option<(usize, Asked)> = None;
         for (i, a) in self.list.iter().take(self.count).enumerate() {
-            let sooner = match best {
-                Some((_, b)) => a.until.place < b.until.place,
-                None => true,
-            };
+            let sooner = best.is_none_or(|(_, b)| a.until.place < b.until.place);
             if sooner && a.fate == Fate::Succeeded {
                 best = Some((i, *a));
             }
@@ -195,11 +192,7 @@ impl Calls {
     fn call(&mut self, place: usize, now: Point) {
         if let Some(before) = self.last {
             let ns = now.moment.saturating_sub(before.at.moment);
-            let longest = match self.longest {
-                Some(gap) => gap.ns,
-                None => 0,
-            };
-            if longest < ns {
+            if self.longest.map_or(0, |gap| gap.ns) < ns {
                 self.longest = Some(Gap { before, ns });
             }
         }

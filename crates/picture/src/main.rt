@@ -40,20 +40,14 @@ fn draw_race(
     let scale = scale_of(moments);
     let verdict = Verdict {
         answers,
-        won: match table.winner() {
-            Some((_, a)) => Some(a),
-            None => None,
-        },
+        won: table.winner().map(|(_, a)| a),
         calls: g.course.calls,
         moments,
     };
     let rows = Rows {
         answers,
         scale,
-        last: match moments {
-            Some(m) => m.last,
-            None => 0,
-        },
+        last: moments.map_or(0, |m| m.last),
     };
     let height = height_of(table.count);
     draw_head(rt, c, verdict, height)?;

@@ -130,10 +130,7 @@ pub fn draw_rows(rt: &(impl Print + Alloc), rows: Rows<'_>, t: &Table) -> io::Re
     if t.count == 0 {
         return rt.print("<text class=\"label\" x=\"16\" y=\"155\">nothing was asked for</text>\n");
     }
-    let winner = match t.winner() {
-        Some((w, _)) => Some(w),
-        None => None,
-    };
+    let winner = t.winner().map(|(w, _)| w);
     for (i, asked) in t.list.iter().take(t.count).enumerate() {
         rows.draw(rt, i, asked, winner == Some(i))?;
     }

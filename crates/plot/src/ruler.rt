@@ -5,7 +5,7 @@ use chart::scale::{Scale, column_of, step_of};
 use std::{fmt, io};
 use telling::piece::Millis;
 
-// A number of the scale: the time from zero to a time, both since the earliest moment; whole milliseconds, where the scale's steps are whole.
+// A number of the scale: the time from zero on, both since the earliest moment; whole milliseconds, where the scale's steps are whole.
 #[derive(Clone, Copy)]
 struct Number {
     ns: u64,

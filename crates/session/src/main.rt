@@ -64,7 +64,7 @@ fn live_answers(tape: &[u8], out: &mut [u8]) -> usize {
     }
 }
 
-// Holds the two ways of answering a tape against each other. The buffers are compared whole: neither way may touch a byte behind the answers.
+// Holds the two ways of answering a tape against each other, and the buffers whole: neither way may touch a byte behind the answers.
 fn compared(rt: &impl Print, tape: &[u8], told: &mut [u8], live: &mut [u8]) -> io::Result<()> {
     let r = replay::tape::replay(tape, told);
     let written = live_answers(tape, live);
