@@ -1,22 +1,24 @@
 -- `answers::writer::put_numbers` meets its contract.
-use mathlib.Core.Path.{ap, ◌∙◌}
-use Prim.Native.Nat.{◌+◌, ◌≤◌}
-use lib.ListN.{length}
-use Rattle.numbers.specs.Put.{placed}
+use mathlib.Core.Path.{sym, ◌∙◌}
+use native.Mathlib.Omega.{arith}
+use borrow.Author.Tests.{leb-true, leb-false}
 use Rattle.numbers.proofs.PutLaws.{no_room_lem, room}
-use Rattle.answers.specs.Parts.{numbers_bytes}
-use Rattle.answers.proofs.Joined.{short-of, enough-for}
 use Rattle.answers.proofs.writer.put_numbers.Goals as goal
 
--- past the test there is room
-fits-2 : (c : goal.After-slice_known-2-1) → c.args.at + length (numbers_bytes c.args.numbers.now) ≤ length c.args.out.now
-fits-2 c = enough-for _ _ c.has_room.ensures c.numbers_len-need.ensures c.if-not-has_room.false-raw
+pub returns-then-not-has_room-clause-answer : goal.returns-then-not-has_room-clause-answer
+returns-then-not-has_room-clause-answer c =
+    let h = leb-false _ _ (sym c.has_room.ensures ∙ c.if-not-has_room.true) in
+    (no_room_lem _ _ _ (omega (arith, c.numbers_len-need.ensures))).0
 
-as_clauses : {A B : Type 0} → A × B → record { answer : A; bytes : B }
-as_clauses p = record { answer = p.0; bytes = p.1 }
+pub returns-then-not-has_room-clause-bytes : goal.returns-then-not-has_room-clause-bytes
+returns-then-not-has_room-clause-bytes c =
+    let h = leb-false _ _ (sym c.has_room.ensures ∙ c.if-not-has_room.true) in
+    (no_room_lem _ _ _ (omega (arith, c.numbers_len-need.ensures))).1
 
-pub returns-then-not-has_room : goal.returns-then-not-has_room
-returns-then-not-has_room c = as_clauses (no_room_lem _ _ _ (short-of _ _ c.has_room.ensures c.numbers_len-need.ensures c.if-not-has_room.true-raw))
+pub write_numbers-requires : goal.write_numbers-requires
+write_numbers-requires c = let h = leb-true _ _ (sym c.has_room.ensures ∙ c.if-not-has_room.false) in omega (arith, c.numbers_len-need.ensures)
 
 pub returns-clause-answer : goal.returns-clause-answer
-returns-clause-answer c = ap placed c.write_numbers-next.ensures.next ∙ (room _ _ _ (fits-2 c)).0
+returns-clause-answer c =
+    let h = leb-true _ _ (sym c.has_room.ensures ∙ c.if-not-has_room.false) in
+    c.write_numbers.ensures.answer ∙ (room _ _ _ (omega (arith, c.numbers_len-need.ensures))).0

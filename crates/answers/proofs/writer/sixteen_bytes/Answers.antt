@@ -1,8 +1,8 @@
--- `answers::writer::sixteen_bytes` meets its contract.
-use mathlib.Core.Path.{refl}
+use mathlib.Core.Path.{refl, ◌∙◌}
 use Rattle.answers.specs.Answers.{high_first}
+use Rattle.answers.proofs.Puts.{eight-bytes}
 use Rattle.answers.proofs.writer.sixteen_bytes.Goals as goal
 
 pub returns : goal.returns
 unfolding high_first
-returns c = rw (c.eight_bytes.ensures, c.eight_bytes-2.ensures) refl
+returns c = let h = c.to_be_bytes-h.ensures ∙ eight-bytes _ in let l = c.to_be_bytes-l.ensures ∙ eight-bytes _ in rw (h, l) refl
