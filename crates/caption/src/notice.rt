@@ -15,7 +15,7 @@ impl fmt::Display for Stop {
         if r.status == 0 {
             return Ok(());
         }
-        let why = Refused(r.status as u64);
+        let why = Refused(u64::from(r.status));
         write!(f, "The tape stops at byte {}: {why}.", r.place)
     }
 }
