@@ -1,41 +1,56 @@
 // What a reader is to be warned of.
 use chart::moments::Moments;
 use replay::run::Replayed;
-use telling::piece::{around, millis, text};
-use wording::words::refusal;
+use std::fmt;
+use telling::piece::Millis;
+use wording::words::Refused;
 
 // Where the tape stops, and why; nothing of one that is replayed to its end.
-pub fn stop(out: &mut [u8], r: Replayed) -> usize {
-    if r.status == 0 {
-        return 0;
-    }
-    let p = around(out, 0, b"The tape stops at byte ", r.place as u64, b": ");
-    let q = refusal(out, p, r.status as u64);
-    text(out, q, b".")
-}
+#[derive(Clone, Copy)]
+pub struct Stop(pub Replayed);
 
-fn times(out: &mut [u8], at: usize, n: u64) -> usize {
-    if n == 1 {
-        return text(out, at, b"The clock went back once, by ");
+impl fmt::Display for Stop {
+    fn fmt<W: fmt::Write>(&self, f: &mut fmt::Formatter<W>) -> fmt::Result {
+        let r = self.0;
+        if r.status == 0 {
+            return Ok(());
+        }
+        let why = Refused(u64::from(r.status));
+        write!(f, "The tape stops at byte {}: {why}.", r.place)
     }
-    around(out, at, b"The clock went back ", n, b" times, by up to ")
-}
-
-// A blank after the sentence before.
-fn apart(out: &mut [u8], at: usize) -> usize {
-    if at == 0 {
-        return at;
-    }
-    text(out, at, b" ")
 }
 
 // How often the clock went back, and how far; nothing of one that never did.
-pub fn clock(out: &mut [u8], at: usize, m: Moments) -> usize {
-    if m.backs == 0 {
-        return at;
+#[derive(Clone, Copy)]
+struct Backs(Moments);
+
+impl fmt::Display for Backs {
+    fn fmt<W: fmt::Write>(&self, f: &mut fmt::Formatter<W>) -> fmt::Result {
+        let by = Millis(self.0.farthest);
+        match self.0.backs {
+            0 => Ok(()),
+            1 => write!(f, "The clock went back once, by {by} ms."),
+            n => write!(f, "The clock went back {n} times, by up to {by} ms."),
+        }
     }
-    let p = apart(out, at);
-    let q = times(out, p, m.backs);
-    let r = millis(out, q, m.farthest);
-    text(out, r, b" ms.")
+}
+
+// Both, as sentences.
+#[derive(Clone, Copy)]
+pub struct Notice {
+    pub replayed: Replayed,
+    pub moments: Option<Moments>,
+}
+
+impl fmt::Display for Notice {
+    fn fmt<W: fmt::Write>(&self, f: &mut fmt::Formatter<W>) -> fmt::Result {
+        write!(f, "{}", Stop(self.replayed))?;
+        let Some(m) = self.moments else {
+            return Ok(());
+        };
+        if self.replayed.status != 0 && m.backs != 0 {
+            f.write_str(" ")?;
+        }
+        write!(f, "{}", Backs(m))
+    }
 }

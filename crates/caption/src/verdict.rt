@@ -1,96 +1,59 @@
 // What a race came to, in words: who won and when, or what was said last.
 use chart::moments::Moments;
-use course::{Asked, Calls, Table, winner};
-use plot::times::took;
-use reader::{Answer, AnswerRead, answer_at};
-use telling::piece::{around, text};
-use wording::reply::said_at;
+use course::{Asked, Calls};
+use reader::{Answer, answer_at};
+use std::fmt;
+use telling::piece::Took;
+use wording::reply::ReplyAt;
 
-// Who won.
+// The winner, the calls and the moments of a tape, and the answers to it.
 #[derive(Clone, Copy)]
-pub enum Won {
-    By(Asked),
-    Nobody,
-}
-
-pub fn won_by(t: Table) -> Won {
-    let w = winner(t);
-    if w < 64 {
-        let a = t.list[w];
-        return Won::By(a);
-    }
-    Won::Nobody
-}
-
-fn is_failed(a: Answer) -> bool {
-    match a {
-        Answer::Failed(_) => true,
-        _ => false,
-    }
-}
-
-// Whether the answer at a place is Failed.
-fn failed_at(answers: &[u8], place: usize) -> bool {
-    let r = answer_at(answers, place);
-    match r {
-        AnswerRead::Refused(_) => false,
-        AnswerRead::Answer(a, _) => is_failed(a),
-    }
-}
-
-fn came_to(out: &mut [u8], at: usize, failed: bool) -> usize {
-    if failed {
-        return text(out, at, b": failed after ");
-    }
-    text(out, at, b": not decided after ")
-}
-
-// What a race without a winner came to, by its last call.
-fn undecided(out: &mut [u8], at: usize, answers: &[u8], c: Calls, m: Moments) -> usize {
-    let last = c.last;
-    let called = last.at;
-    if !m.any {
-        return text(out, at, b": no event");
-    }
-    if !c.any {
-        return text(out, at, b": no call");
-    }
-    let p = came_to(out, at, failed_at(answers, last.place));
-    let q = took(out, p, m.first, called.moment);
-    text(out, q, b" ms")
-}
-
-fn won_after(out: &mut [u8], at: usize, a: Asked, first: u64) -> usize {
-    let until = a.until;
-    let p = text(out, at, b": won after ");
-    let q = took(out, p, first, until.moment);
-    around(out, q, b" ms by attempt ", a.id, b"")
+pub struct Verdict<'a> {
+    pub answers: &'a [u8],
+    pub won: Option<Asked>,
+    pub calls: Calls,
+    pub moments: Option<Moments>,
 }
 
 // What the race came to, and after how long.
-pub fn outcome(out: &mut [u8], at: usize, answers: &[u8], w: Won, c: Calls, m: Moments) -> usize {
-    match w {
-        Won::By(a) => won_after(out, at, a, m.first),
-        Won::Nobody => undecided(out, at, answers, c, m),
+impl fmt::Display for Verdict<'_> {
+    fn fmt<W: fmt::Write>(&self, f: &mut fmt::Formatter<W>) -> fmt::Result {
+        let Some(m) = self.moments else {
+            return f.write_str(": no event");
+        };
+        let from = m.first;
+        if let Some(a) = self.won {
+            let until = a.until.moment;
+            let took = Took { from, until };
+            return write!(f, ": won after {took} ms by attempt {}", a.id);
+        }
+        let Some(last) = self.calls.last else {
+            return f.write_str(": no call");
+        };
+        let until = last.at.moment;
+        let took = Took { from, until };
+        match answer_at(self.answers, last.place) {
+            Ok((Answer::Failed(_), _)) => write!(f, ": failed after {took} ms"),
+            _ => write!(f, ": not decided after {took} ms"),
+        }
     }
-}
-
-fn last_said(out: &mut [u8], answers: &[u8], c: Calls) -> usize {
-    let last = c.last;
-    if !c.any {
-        return text(out, 0, b"The machine was never called.");
-    }
-    let p = text(out, 0, b"Answer to the last call: ");
-    said_at(out, p, answers, last.place)
 }
 
 // The winner, or the answer to the last call.
-pub fn detail(out: &mut [u8], answers: &[u8], w: Won, c: Calls) -> usize {
-    match w {
-        Won::By(a) => {
-            let p = text(out, 0, b"Won by ");
-            said_at(out, p, answers, a.place)
+#[derive(Clone, Copy)]
+pub struct Detail<'a>(pub Verdict<'a>);
+
+impl fmt::Display for Detail<'_> {
+    fn fmt<W: fmt::Write>(&self, f: &mut fmt::Formatter<W>) -> fmt::Result {
+        let answers = self.0.answers;
+        if let Some(a) = self.0.won {
+            let place = a.place;
+            return write!(f, "Won by {}", ReplyAt { answers, place });
         }
-        Won::Nobody => last_said(out, answers, c),
+        let Some(last) = self.0.calls.last else {
+            return f.write_str("The machine was never called.");
+        };
+        let place = last.place;
+        write!(f, "Answer to the last call: {}", ReplyAt { answers, place })
     }
 }

@@ -1,94 +1,115 @@
 // Pieces of SVG: text, bars and marks. Nothing but printable ASCII is written, whatever bytes come.
-use telling::piece::{around, text};
+use std::fmt;
 
-fn escaped_byte(out: &mut [u8], at: usize, b: u8) -> usize {
-    match b {
-        34 => text(out, at, b"&quot;"),
-        38 => text(out, at, b"&amp;"),
-        60 => text(out, at, b"&lt;"),
-        62 => text(out, at, b"&gt;"),
-        32..=126 => {
-            let one = [b];
-            text(out, at, &one)
+// A text as XML has it.
+#[derive(Clone, Copy)]
+pub struct Escaped<'a>(pub &'a [u8]);
+
+impl fmt::Display for Escaped<'_> {
+    fn fmt<W: fmt::Write>(&self, f: &mut fmt::Formatter<W>) -> fmt::Result {
+        for b in self.0 {
+            match *b {
+                b'"' => f.write_str("&quot;")?,
+                b'&' => f.write_str("&amp;")?,
+                b'<' => f.write_str("&lt;")?,
+                b'>' => f.write_str("&gt;")?,
+                32..=126 => f.write_char(*b as char)?,
+                _ => f.write_str("?")?,
+            }
         }
-        _ => text(out, at, b"?"),
+        Ok(())
     }
 }
 
-// The first n bytes of a text, as XML has them.
-pub fn escaped(out: &mut [u8], at: usize, s: &[u8], n: usize) -> usize {
-    let mut p = at;
-    let mut i: usize = 0;
-    while i < s.len() {
-        if n <= i {
-            return p;
-        }
-        p = escaped_byte(out, p, s[i]);
-        i += 1;
-    }
-    p
+// A text that is cut after so many bytes; an ellipsis stands for the others.
+#[derive(Clone, Copy)]
+pub struct Shortened<'a> {
+    pub text: &'a [u8],
+    pub most: usize,
 }
 
-// A text of n bytes that is cut after so many; an ellipsis stands for the others.
-pub fn shortened(out: &mut [u8], at: usize, s: &[u8], n: usize, most: usize) -> usize {
-    if n <= most {
-        return escaped(out, at, s, n);
+impl fmt::Display for Shortened<'_> {
+    fn fmt<W: fmt::Write>(&self, f: &mut fmt::Formatter<W>) -> fmt::Result {
+        match self.text.get(..self.most) {
+            Some(begin) if self.most < self.text.len() => write!(f, "{}&#8230;", Escaped(begin)),
+            _ => write!(f, "{}", Escaped(self.text)),
+        }
     }
-    let p = escaped(out, at, s, most);
-    text(out, p, b"&#8230;")
 }
 
 // The begin of a text of a class, up to its words.
-pub fn open_text(out: &mut [u8], at: usize, class: &[u8], x: u64, y: u64) -> usize {
-    let p = text(out, at, b"<text class=\"");
-    let q = text(out, p, class);
-    let r = around(out, q, b"\" x=\"", x, b"\"");
-    around(out, r, b" y=\"", y, b"\">")
+#[derive(Clone, Copy)]
+pub struct TextTag<'a> {
+    pub class: &'a str,
+    pub x: u64,
+    pub y: u64,
 }
 
-pub fn close_text(out: &mut [u8], at: usize) -> usize {
-    text(out, at, b"</text>\n")
-}
-
-// The whole of a text that is cut: a viewer shows it under the pointer.
-fn whole(out: &mut [u8], at: usize, s: &[u8], n: usize, most: usize) -> usize {
-    if n <= most {
-        return at;
+impl fmt::Display for TextTag<'_> {
+    fn fmt<W: fmt::Write>(&self, f: &mut fmt::Formatter<W>) -> fmt::Result {
+        let class = self.class;
+        let x = self.x;
+        let y = self.y;
+        write!(f, "<text class=\"{class}\" x=\"{x}\" y=\"{y}\">")
     }
-    let p = text(out, at, b"<title>");
-    let q = escaped(out, p, s, n);
-    text(out, q, b"</title>")
 }
 
-// A text of n bytes on a line of the page, from the margin on, cut after so many.
-pub fn words(
-    out: &mut [u8],
-    at: usize,
-    class: &[u8],
-    y: u64,
-    s: &[u8],
-    n: usize,
-    most: usize,
-) -> usize {
-    let p = open_text(out, at, class, 16, y);
-    let q = whole(out, p, s, n, most);
-    let r = shortened(out, q, s, n, most);
-    close_text(out, r)
+// A text on a line of the page, from the margin on, cut after so many bytes; a viewer shows the whole of one that is cut under the pointer.
+#[derive(Clone, Copy)]
+pub struct Words<'a> {
+    pub class: &'a str,
+    pub y: u64,
+    pub text: Shortened<'a>,
+}
+
+impl fmt::Display for Words<'_> {
+    fn fmt<W: fmt::Write>(&self, f: &mut fmt::Formatter<W>) -> fmt::Result {
+        let text = self.text;
+        let tag = TextTag {
+            class: self.class,
+            x: 16,
+            y: self.y,
+        };
+        write!(f, "{tag}")?;
+        if text.most < text.text.len() {
+            write!(f, "<title>{}</title>", Escaped(text.text))?;
+        }
+        write!(f, "{text}</text>\n")
+    }
 }
 
 // A bar of a class from one column to another.
-pub fn bar(out: &mut [u8], at: usize, class: &[u8], from: u64, until: u64, y: u64) -> usize {
-    let p = text(out, at, b"<path class=\"");
-    let q = text(out, p, class);
-    let r = around(out, q, b"\" d=\"M", from, b" ");
-    let s = around(out, r, b"", y, b"H");
-    around(out, s, b"", until, b"\"/>\n")
+#[derive(Clone, Copy)]
+pub struct Bar<'a> {
+    pub class: &'a str,
+    pub from: u64,
+    pub until: u64,
+    pub y: u64,
 }
 
-// A mark, by the name of its shape (page::shapes).
-pub fn mark(out: &mut [u8], at: usize, shape: &[u8], x: u64, y: u64) -> usize {
-    let p = text(out, at, b"<use xlink:href=\"#");
-    let q = text(out, p, shape);
-    let r = around(out, q, b"\" x=\"", x, b"\"");
-    around(out, r, b" y=\"", y, b"\"/>\n")
+impl fmt::Display for Bar<'_> {
+    fn fmt<W: fmt::Write>(&self, f: &mut fmt::Formatter<W>) -> fmt::Result {
+        let class = self.class;
+        let from = self.from;
+        let until = self.until;
+        let y = self.y;
+        write!(f, "<path class=\"{class}\" d=\"M{from} {y}H{until}\"/>\n")
+    }
+}
+
+// A mark, by the name of its shape (page::SHAPES).
+#[derive(Clone, Copy)]
+pub struct Mark<'a> {
+    pub shape: &'a str,
+    pub x: u64,
+    pub y: u64,
+}
+
+impl fmt::Display for Mark<'_> {
+    fn fmt<W: fmt::Write>(&self, f: &mut fmt::Formatter<W>) -> fmt::Result {
+        let shape = self.shape;
+        let x = self.x;
+        let y = self.y;
+        write!(f, "<use xlink:href=\"#{shape}\" x=\"{x}\" y=\"{y}\"/>\n")
+    }
 }

@@ -16,27 +16,22 @@ pub struct Scale {
     pub range: u64,
 }
 
-fn apart(low: u64, moment: u64) -> u64 {
-    if moment < low {
-        return 0;
-    }
-    moment - low
-}
-
 // A picture shows a microsecond at least, since no number has more decimals.
-fn at_least(ns: u64) -> u64 {
-    if ns < 1000 {
-        return 1000;
-    }
-    ns
-}
+const LEAST: u64 = 1000;
 
-pub fn scale_of(m: Moments) -> Scale {
-    let range = at_least(apart(m.low, m.high));
-    Scale {
-        low: m.low,
-        zero: apart(m.low, m.first),
-        range,
+// The scale of these moments; a tape without an event has the least.
+pub fn scale_of(moments: Option<Moments>) -> Scale {
+    match moments {
+        Some(m) => Scale {
+            low: m.low,
+            zero: m.first.saturating_sub(m.low),
+            range: LEAST.max(m.high.saturating_sub(m.low)),
+        },
+        None => Scale {
+            low: 0,
+            zero: 0,
+            range: LEAST,
+        },
     }
 }
 
@@ -69,8 +64,7 @@ pub fn column_of(s: Scale, ns: u64) -> u64
 pub fn column(s: Scale, moment: u64) -> u64
     ensures { (390 ≤ result) × (result ≤ 1070) }
 {
-    let ns = apart(s.low, moment);
-    column_of(s, ns)
+    column_of(s, moment.saturating_sub(s.low))
 }
 
 // A time of which a range has so many tens: one, two or five of them, such that at most seven numbers stand on the scale.
@@ -93,6 +87,7 @@ pub fn step_of(range: u64) -> u64
 {
     let mut tens: u64 = 1000;
     let mut many = range / 1000;
+    // No `for`: the bound on `tens` is what keeps the product in 64 bits.
     while tens <= 100000000000000000 {
         if many <= 34 {
             return round(tens, many);

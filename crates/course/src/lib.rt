@@ -1,7 +1,8 @@
 // The course of a race: what the machine asked for, what became of each, and what is counted on the way.
 #![tactic(auto)]
 
-use bodies::{Event, EventRead};
+use bodies::Event;
+use parts::reading::Reading;
 use reader::Answer;
 
 #[derive(Clone, Copy)]
@@ -14,7 +15,19 @@ pub enum Sort {
     Retry,
 }
 
-#[derive(Clone, Copy)]
+impl Sort {
+    // The name of its bar's style (chart::page::STYLES).
+    pub fn name(self) -> &'static str {
+        match self {
+            Sort::Query => "query",
+            Sort::Refresh => "refresh",
+            Sort::Attempt => "attempt",
+            Sort::Retry => "retry",
+        }
+    }
+}
+
+#[derive(Clone, Copy, PartialEq, Eq)]
 pub enum Fate {
     Open,
     Answered,
@@ -23,8 +36,21 @@ pub enum Fate {
     Cancelled,
 }
 
+impl Fate {
+    // Its word, which is its mark's name too (chart::page::SHAPES).
+    pub fn name(self) -> &'static str {
+        match self {
+            Fate::Open => "open",
+            Fate::Answered => "answered",
+            Fate::Failed => "failed",
+            Fate::Succeeded => "succeeded",
+            Fate::Cancelled => "cancelled",
+        }
+    }
+}
+
 // An event: its place in the tape, and its moment.
-#[derive(Clone, Copy)]
+#[derive(Clone, Copy, Default)]
 pub struct Point {
     pub place: usize,
     pub moment: u64,
@@ -41,6 +67,17 @@ pub struct Asked {
     pub until: Point,
 }
 
+impl Asked {
+    pub fn is_open(&self) -> bool {
+        self.fate == Fate::Open
+    }
+
+    // Whether it was open after the event at a place: asked for by then, and not ended by then.
+    pub fn was_open(&self, place: usize) -> bool {
+        self.from.place <= place && (self.is_open() || place < self.until.place)
+    }
+}
+
 // In the order asked. No machine asks for more than 64: 16 queries, a refresh for each, and 32 attempts.
 #[derive(Clone, Copy)]
 pub struct Table {
@@ -48,7 +85,77 @@ pub struct Table {
     pub list: [Asked; 64],
 }
 
-#[derive(Clone, Copy)]
+impl Table {
+    fn new() -> Table {
+        let start = Point::default();
+        let none = Asked {
+            id: 0,
+            sort: Sort::Query,
+            place: 0,
+            from: start,
+            fate: Fate::Open,
+            until: start,
+        };
+        Table {
+            count: 0,
+            list: [none; 64],
+        }
+    }
+
+    // One more thing is asked for, by the answer at a place.
+    fn open(&mut self, id: u64, sort: Sort, place: usize, now: Point) {
+        let n = self.count;
+        if n < 64 {
+            self.list[n] = Asked {
+                id,
+                sort,
+                place,
+                from: now,
+                fate: Fate::Open,
+                until: now,
+            };
+            self.count = n + 1;
+        }
+    }
+
+    // What is open with an id ends.
+    fn close(&mut self, id: u64, fate: Fate, now: Point) {
+        let count = self.count;
+        for a in self.list.iter_mut().take(count) {
+            if a.id == id && a.is_open() {
+                a.fate = fate;
+                a.until = now;
+                return;
+            }
+        }
+    }
+
+    // What an accepted input ends.
+    fn feed(&mut self, e: Event, now: Point) {
+        match e {
+            Event::Call => {}
+            Event::Holds(_, id, _, _) => self.close(id, Fate::Answered, now),
+            Event::Success(id) => self.close(id, Fate::Succeeded, now),
+            Event::Fails(_, id, _) | Event::Failure(id) | Event::EchRetry(id, _) => {
+                self.close(id, Fate::Failed, now)
+            }
+        }
+    }
+
+    // The attempt that succeeded first, and its place in the table.
+    pub fn winner(&self) -> Option<(usize, Asked)> {
+        let mut best: Option<(usize, Asked)> = None;
+        for (i, a) in self.list.iter().take(self.count).enumerate() {
+            let sooner = best.is_none_or(|(_, b)| a.until.place < b.until.place);
+            if sooner && a.fate == Fate::Succeeded {
+                best = Some((i, *a));
+            }
+        }
+        best
+    }
+}
+
+#[derive(Clone, Copy, Default)]
 pub struct Tally {
     pub queries: u64,
     pub refreshes: u64,
@@ -66,13 +173,31 @@ pub struct Called {
     pub place: usize,
 }
 
-// The latest call, if there is one, and the call after which the next came last.
+// The time that passed from a call to the next.
+#[derive(Clone, Copy)]
+pub struct Gap {
+    pub before: Called,
+    pub ns: u64,
+}
+
+// The latest call, and the longest gap between two.
 #[derive(Clone, Copy)]
 pub struct Calls {
-    pub any: bool,
-    pub last: Called,
-    pub longest: u64,
-    pub before: Called,
+    pub last: Option<Called>,
+    pub longest: Option<Gap>,
+}
+
+impl Calls {
+    // The time since the latest call; 0 where there is none, or where the clock went back.
+    fn call(&mut self, place: usize, now: Point) {
+        if let Some(before) = self.last {
+            let ns = now.moment.saturating_sub(before.at.moment);
+            if self.longest.map_or(0, |gap| gap.ns) < ns {
+                self.longest = Some(Gap { before, ns });
+            }
+        }
+        self.last = Some(Called { at: now, place });
+    }
 }
 
 #[derive(Clone, Copy)]
@@ -82,365 +207,66 @@ pub struct Course {
     pub calls: Calls,
 }
 
-fn no_asked() -> Asked {
-    let start = Point {
-        place: 0,
-        moment: 0,
-    };
-    Asked {
-        id: 0,
-        sort: Sort::Query,
-        place: 0,
-        from: start,
-        fate: Fate::Open,
-        until: start,
-    }
-}
-
-fn no_table() -> Table {
-    let a = no_asked();
-    Table {
-        count: 0,
-        list: [a; 64],
-    }
-}
-
-fn no_tally() -> Tally {
-    Tally {
-        queries: 0,
-        refreshes: 0,
-        attempts: 0,
-        retries: 0,
-        cancels: 0,
-        refused: 0,
-        calls: 0,
-    }
-}
-
-fn no_calls() -> Calls {
-    let start = Point {
-        place: 0,
-        moment: 0,
-    };
-    let none = Called {
-        at: start,
-        place: 0,
-    };
-    Calls {
-        any: false,
-        last: none,
-        longest: 0,
-        before: none,
-    }
-}
-
-// The course before the first event.
-pub fn no_course() -> Course {
-    let table = no_table();
-    let tally = no_tally();
-    let calls = no_calls();
-    Course {
-        table,
-        tally,
-        calls,
-    }
-}
-
-pub fn is_open(f: Fate) -> bool {
-    match f {
-        Fate::Open => true,
-        Fate::Answered => false,
-        Fate::Failed => false,
-        Fate::Succeeded => false,
-        Fate::Cancelled => false,
-    }
-}
-
-fn is_won(f: Fate) -> bool {
-    match f {
-        Fate::Open => false,
-        Fate::Answered => false,
-        Fate::Failed => false,
-        Fate::Succeeded => true,
-        Fate::Cancelled => false,
-    }
-}
-
-// One more thing that is asked for.
-fn opened(t: Table, id: u64, sort: Sort, place: usize, now: Point) -> Table {
-    let mut out = t;
-    let n = out.count;
-    if n < 64 {
-        out.list[n] = Asked {
-            id,
-            sort,
-            place,
-            from: now,
-            fate: Fate::Open,
-            until: now,
-        };
-        out.count = n + 1;
-    }
-    out
-}
-
-fn ended(a: Asked, fate: Fate, now: Point) -> Asked {
-    let sort = a.sort;
-    let from = a.from;
-    Asked {
-        id: a.id,
-        sort,
-        place: a.place,
-        from,
-        fate,
-        until: now,
-    }
-}
-
-// The place of what is open with an id; 64 where nothing is.
-fn open_at(t: Table, id: u64) -> usize {
-    let n = t.count;
-    let mut i: usize = 0;
-    while i < 64 {
-        if n <= i {
-            return 64;
+impl Course {
+    // The course before the first event.
+    pub fn new() -> Course {
+        Course {
+            table: Table::new(),
+            tally: Tally::default(),
+            calls: Calls {
+                last: None,
+                longest: None,
+            },
         }
-        let a = t.list[i];
-        let f = a.fate;
-        if a.id == id {
-            if is_open(f) {
-                return i;
+    }
+
+    // One event more, and the answer to it, which stands at a place among the answers.
+    pub fn follow(&mut self, read: Reading<Event>, answer: Answer, place: usize, now: Point) {
+        match answer {
+            Answer::Taken(n) => self.input(n, read, now),
+            _ => self.call(answer, place, now),
+        }
+    }
+
+    fn input(&mut self, n: u64, read: Reading<Event>, now: Point) {
+        if n != 0 {
+            self.tally.refused = more(self.tally.refused);
+        } else if let Ok((e, _)) = read {
+            self.table.feed(e, now);
+        }
+    }
+
+    // Every answer is to a call, but for an input's.
+    fn call(&mut self, answer: Answer, place: usize, now: Point) {
+        self.tally.calls = more(self.tally.calls);
+        self.calls.call(place, now);
+        match answer {
+            Answer::Query(id, _, true, _) => {
+                self.tally.queries = more(self.tally.queries);
+                self.table.open(id, Sort::Query, place, now);
             }
+            Answer::Query(id, _, false, _) => {
+                self.tally.refreshes = more(self.tally.refreshes);
+                self.table.open(id, Sort::Refresh, place, now);
+            }
+            Answer::Attempt(id, false, _) => {
+                self.tally.attempts = more(self.tally.attempts);
+                self.table.open(id, Sort::Attempt, place, now);
+            }
+            Answer::Attempt(id, true, _) => {
+                self.tally.attempts = more(self.tally.attempts);
+                self.tally.retries = more(self.tally.retries);
+                self.table.open(id, Sort::Retry, place, now);
+            }
+            Answer::Cancel(id) => {
+                self.tally.cancels = more(self.tally.cancels);
+                self.table.close(id, Fate::Cancelled, now);
+            }
+            _ => {}
         }
-        i += 1;
-    }
-    64
-}
-
-// What is open with an id ends.
-fn closed(t: Table, id: u64, fate: Fate, now: Point) -> Table {
-    let i = open_at(t, id);
-    if 64 <= i {
-        return t;
-    }
-    let mut out = t;
-    let a = out.list[i];
-    out.list[i] = ended(a, fate, now);
-    out
-}
-
-// What an accepted input ends.
-fn fed(t: Table, e: Event, now: Point) -> Table {
-    match e {
-        Event::Call => t,
-        Event::Fails(_, id, _) => closed(t, id, Fate::Failed, now),
-        Event::Holds(_, id, _, _) => closed(t, id, Fate::Answered, now),
-        Event::Success(id) => closed(t, id, Fate::Succeeded, now),
-        Event::Failure(id) => closed(t, id, Fate::Failed, now),
-        Event::EchRetry(id, _) => closed(t, id, Fate::Failed, now),
-    }
-}
-
-fn taken(t: Table, n: u64, read: EventRead, now: Point) -> Table {
-    if n != 0 {
-        return t;
-    }
-    match read {
-        EventRead::Event(e, _) => fed(t, e, now),
-        EventRead::Refused(_, _) => t,
-    }
-}
-
-fn query_sort(stale: bool) -> Sort {
-    if stale {
-        return Sort::Query;
-    }
-    Sort::Refresh
-}
-
-fn attempt_sort(retry: bool) -> Sort {
-    if retry {
-        return Sort::Retry;
-    }
-    Sort::Attempt
-}
-
-// The table after an event and the answer to it, which stands at a place.
-fn table_after(t: Table, read: EventRead, answer: Answer, place: usize, now: Point) -> Table {
-    match answer {
-        Answer::Waiting => t,
-        Answer::Query(id, _, stale, _) => opened(t, id, query_sort(stale), place, now),
-        Answer::Timer(_) => t,
-        Answer::Attempt(id, retry, _) => opened(t, id, attempt_sort(retry), place, now),
-        Answer::Cancel(id) => closed(t, id, Fate::Cancelled, now),
-        Answer::Succeeded => t,
-        Answer::Failed(_) => t,
-        Answer::Full(_) => t,
-        Answer::Taken(n) => taken(t, n, read, now),
     }
 }
 
 fn more(n: u64) -> u64 {
-    std::num::wrapping_add_u64(n, 1)
-}
-
-fn counted_query(y: Tally, stale: bool) -> Tally {
-    let mut out = y;
-    if stale {
-        out.queries = more(y.queries);
-    } else {
-        out.refreshes = more(y.refreshes);
-    }
-    out
-}
-
-fn counted_attempt(y: Tally, retry: bool) -> Tally {
-    let mut out = y;
-    out.attempts = more(y.attempts);
-    if retry {
-        out.retries = more(y.retries);
-    }
-    out
-}
-
-fn counted_input(y: Tally, n: u64) -> Tally {
-    let mut out = y;
-    if n != 0 {
-        out.refused = more(y.refused);
-    }
-    out
-}
-
-fn counted_call(y: Tally) -> Tally {
-    let mut out = y;
-    out.calls = more(y.calls);
-    out
-}
-
-fn counted_cancel(y: Tally) -> Tally {
-    let mut out = y;
-    out.cancels = more(y.cancels);
-    out
-}
-
-// How many of each there are after an answer: every answer is to a call, but for an input's.
-fn tally_after(y: Tally, answer: Answer) -> Tally {
-    match answer {
-        Answer::Waiting => counted_call(y),
-        Answer::Query(_, _, stale, _) => counted_query(counted_call(y), stale),
-        Answer::Timer(_) => counted_call(y),
-        Answer::Attempt(_, retry, _) => counted_attempt(counted_call(y), retry),
-        Answer::Cancel(_) => counted_cancel(counted_call(y)),
-        Answer::Succeeded => counted_call(y),
-        Answer::Failed(_) => counted_call(y),
-        Answer::Full(_) => counted_call(y),
-        Answer::Taken(n) => counted_input(y, n),
-    }
-}
-
-// The time since the latest call; 0 where there is none, or where the clock went back.
-fn gap(c: Calls, moment: u64) -> u64 {
-    let last = c.last;
-    let at = last.at;
-    if !c.any {
-        return 0;
-    }
-    if moment < at.moment {
-        return 0;
-    }
-    moment - at.moment
-}
-
-fn call_made(c: Calls, place: usize, now: Point) -> Calls {
-    let last = c.last;
-    let before = c.before;
-    let latest = Called { at: now, place };
-    let passed = gap(c, now.moment);
-    if c.longest < passed {
-        return Calls {
-            any: true,
-            last: latest,
-            longest: passed,
-            before: last,
-        };
-    }
-    Calls {
-        any: true,
-        last: latest,
-        longest: c.longest,
-        before,
-    }
-}
-
-fn calls_after(c: Calls, answer: Answer, place: usize, now: Point) -> Calls {
-    match answer {
-        Answer::Waiting => call_made(c, place, now),
-        Answer::Query(_, _, _, _) => call_made(c, place, now),
-        Answer::Timer(_) => call_made(c, place, now),
-        Answer::Attempt(_, _, _) => call_made(c, place, now),
-        Answer::Cancel(_) => call_made(c, place, now),
-        Answer::Succeeded => call_made(c, place, now),
-        Answer::Failed(_) => call_made(c, place, now),
-        Answer::Full(_) => call_made(c, place, now),
-        Answer::Taken(_) => c,
-    }
-}
-
-// The course after an event and the answer to it, which stands at a place among the answers.
-pub fn course_after(
-    c: Course,
-    read: EventRead,
-    answer: Answer,
-    place: usize,
-    now: Point,
-) -> Course {
-    let t = c.table;
-    let y = c.tally;
-    let k = c.calls;
-    let table = table_after(t, read, answer, place, now);
-    let tally = tally_after(y, answer);
-    let calls = calls_after(k, answer, place, now);
-    Course {
-        table,
-        tally,
-        calls,
-    }
-}
-
-// Whether something was open after the event at a place: asked for by then, and not ended by then.
-pub fn was_open(a: Asked, place: usize) -> bool {
-    let from = a.from;
-    let until = a.until;
-    let fate = a.fate;
-    if place < from.place {
-        return false;
-    }
-    if is_open(fate) {
-        return true;
-    }
-    place < until.place
-}
-
-// The place of the attempt that succeeded first; 64 where none did.
-pub fn winner(t: Table) -> usize {
-    let n = t.count;
-    let mut best: usize = 64;
-    let mut first: usize = usize::MAX;
-    let mut i: usize = 0;
-    while i < 64 {
-        if n <= i {
-            return best;
-        }
-        let a = t.list[i];
-        let f = a.fate;
-        let u = a.until;
-        if is_won(f) {
-            if u.place < first {
-                best = i;
-                first = u.place;
-            }
-        }
-        i += 1;
-    }
-    best
+    n.wrapping_add(1)
 }

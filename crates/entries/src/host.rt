@@ -1,196 +1,162 @@
 // What the host says: an event in words.
-use bodies::{Event, EventRead, addresses_of, offered_of};
-use numbers::field::Span;
-use offers::Offered;
+use bodies::{Event, addresses_of, offered_of};
+use parts::reading::Reading;
 use records::names::{Ech, EchPlace, Name};
-use records::queries::{Addresses, Kind};
+use records::queries::{Addr, Kind};
 use records::services::Service;
-use telling::address::{four, six};
-use telling::piece::{around, ech, name, sealed_part, text};
-use wording::words::{kind, port, versions};
+use std::fmt;
+use telling::address::{Four, Six};
+use telling::piece::{Letters, Sealed, part};
+use wording::words::{PortOf, VersionSet, kind};
 
-fn hint_four(out: &mut [u8], at: usize, s: Service, i: usize) -> usize {
-    if 4 <= i {
-        return at;
-    }
-    if s.n4 <= i {
-        return at;
-    }
-    let a = s.v4[i];
-    let p = text(out, at, b", hint ");
-    four(out, p, a as u64)
+// A service, with its name and its ECH bytes.
+#[derive(Clone, Copy)]
+struct Offer<'a> {
+    service: &'a Service,
+    name: &'a Name,
+    ech: &'a Ech,
 }
 
-fn hint_six(out: &mut [u8], at: usize, s: Service, i: usize) -> usize {
-    if 4 <= i {
-        return at;
+impl fmt::Display for Offer<'_> {
+    fn fmt<W: fmt::Write>(&self, f: &mut fmt::Formatter<W>) -> fmt::Result {
+        let s = self.service;
+        let name = Letters(self.name.as_bytes());
+        write!(f, "priority {}, {name}", s.priority)?;
+        write!(f, ", {}, {}", VersionSet(s.versions), PortOf(s.port))?;
+        match s.ech {
+            EchPlace::Without => f.write_str(", no ECH")?,
+            EchPlace::At(_) => write!(f, ", {}", Sealed(self.ech.as_bytes()))?,
+        }
+        for a in s.v4.iter().take(s.n4) {
+            write!(f, ", hint {}", Four(*a as u64))?;
+        }
+        for a in s.v6.iter().take(s.n6) {
+            let six = Six {
+                hi: a.hi,
+                lo: a.lo,
+                scope: 0,
+            };
+            write!(f, ", hint {six}")?;
+        }
+        Ok(())
     }
-    if s.n6 <= i {
-        return at;
-    }
-    let a = s.v6[i];
-    let p = text(out, at, b", hint ");
-    six(out, p, a.hi, a.lo, 0)
 }
 
-// The hint at a place: those of IPv4 stand from 0 on, those of IPv6 from 4 on.
-fn hint(out: &mut [u8], at: usize, s: Service, i: usize) -> usize {
-    if i < 4 {
-        return hint_four(out, at, s, i);
-    }
-    hint_six(out, at, s, i - 4)
+// An address of a record of this type.
+#[derive(Clone, Copy)]
+struct Address<'a> {
+    kind: Kind,
+    address: &'a Addr,
 }
 
-fn hints(out: &mut [u8], at: usize, s: Service) -> usize {
-    let mut p = at;
-    let mut i: usize = 0;
-    while i < 8 {
-        p = hint(out, p, s, i);
-        i += 1;
-    }
-    p
-}
-
-fn service_ech(out: &mut [u8], at: usize, held: EchPlace, e: Ech) -> usize {
-    match held {
-        EchPlace::Without => text(out, at, b", no ECH"),
-        EchPlace::At(_) => {
-            let p = text(out, at, b", ");
-            ech(out, p, e)
+impl fmt::Display for Address<'_> {
+    fn fmt<W: fmt::Write>(&self, f: &mut fmt::Formatter<W>) -> fmt::Result {
+        let a = self.address;
+        match self.kind {
+            Kind::Https => Ok(()),
+            Kind::Aaaa => {
+                let six = Six {
+                    hi: a.hi,
+                    lo: a.lo,
+                    scope: a.scope,
+                };
+                write!(f, "{six}")
+            }
+            Kind::A => write!(f, "{}", Four(a.lo)),
         }
     }
 }
 
-fn ways(out: &mut [u8], at: usize, s: Service) -> usize {
-    let v = s.versions;
-    let own = s.port;
-    let p = text(out, at, b", ");
-    let q = versions(out, p, v);
-    let r = text(out, q, b", ");
-    port(out, r, own)
+// An event, and the body that says it; of a body that isn't sound only its length.
+#[derive(Clone, Copy)]
+pub struct Said<'a> {
+    pub body: &'a [u8],
+    pub read: Reading<Event>,
 }
 
-fn service(out: &mut [u8], at: usize, s: Service, n: Name, e: Ech) -> usize {
-    let held = s.ech;
-    let p = around(out, at, b"priority ", s.priority as u64, b", ");
-    let q = name(out, p, n);
-    let r = ways(out, q, s);
-    let t = service_ech(out, r, held, e);
-    hints(out, t, s)
-}
-
-fn address_at(out: &mut [u8], at: usize, k: Kind, l: Addresses, i: usize) -> usize {
-    if 8 <= i {
-        return at;
-    }
-    let a = l.list[i];
-    match k {
-        Kind::Https => at,
-        Kind::Aaaa => six(out, at, a.hi, a.lo, a.scope),
-        Kind::A => four(out, at, a.lo),
-    }
-}
-
-fn service_at(out: &mut [u8], at: usize, o: Offered, i: usize) -> usize {
-    if 4 <= i {
-        return at;
-    }
-    let l = o.services;
-    let names = o.names;
-    let echs = o.echs;
-    let s = l.list[i];
-    let n = names.list[i];
-    let e = echs.list[i];
-    service(out, at, s, n, e)
-}
-
-// The item i of an answer: a service or an address.
-fn item(out: &mut [u8], at: usize, body: &[u8], e: Event, k: Kind, i: usize) -> usize {
-    match k {
-        Kind::Https => service_at(out, at, offered_of(body, e), i),
-        _ => address_at(out, at, k, addresses_of(body, e), i),
-    }
-}
-
-// What stands before the item i.
-fn mark(out: &mut [u8], at: usize, k: Kind, i: usize) -> usize {
-    if i == 0 {
-        return text(out, at, b": ");
-    }
-    match k {
-        Kind::Https => text(out, at, b"; "),
-        _ => text(out, at, b", "),
-    }
-}
-
-fn no_item(out: &mut [u8], at: usize, k: Kind) -> usize {
-    match k {
-        Kind::Https => text(out, at, b": no service"),
-        _ => text(out, at, b": no address"),
-    }
-}
-
-// The n items of an answer.
-fn items(out: &mut [u8], at: usize, body: &[u8], e: Event, k: Kind, n: usize) -> usize {
-    if n == 0 {
-        return no_item(out, at, k);
-    }
-    let mut p = at;
-    let mut i: usize = 0;
-    while i < n {
-        p = mark(out, p, k, i);
-        p = item(out, p, body, e, k, i);
-        i += 1;
-    }
-    p
-}
-
-fn answer_head(out: &mut [u8], at: usize, k: Kind, id: u64, stale: bool) -> usize {
-    let p = around(out, at, b"answer to query ", id, b", ");
-    let q = kind(out, p, k);
-    if stale {
-        return text(out, q, b", stale");
-    }
-    q
-}
-
-fn failed(out: &mut [u8], at: usize, k: Kind, id: u64, stale: bool) -> usize {
-    let p = answer_head(out, at, k, id, stale);
-    text(out, p, b": failed")
-}
-
-fn retry(out: &mut [u8], at: usize, body: &[u8], id: u64, b: Span) -> usize {
-    let p = around(out, at, b"attempt ", id, b" failed, retry with ");
-    sealed_part(out, p, body, b)
-}
-
-fn said(out: &mut [u8], at: usize, body: &[u8], e: Event) -> usize {
-    match e {
-        Event::Call => text(out, at, b"calls"),
-        Event::Fails(k, id, stale) => failed(out, at, k, id, stale),
-        Event::Holds(k, id, stale, l) => {
-            let p = answer_head(out, at, k, id, stale);
-            items(out, p, body, e, k, l.count)
+impl Said<'_> {
+    // The first n services of an answer.
+    fn offers<W: fmt::Write>(
+        &self,
+        f: &mut fmt::Formatter<W>,
+        event: Event,
+        n: usize,
+    ) -> fmt::Result {
+        if n == 0 {
+            return f.write_str(": no service");
         }
-        Event::Success(id) => around(out, at, b"attempt ", id, b" succeeded"),
-        Event::Failure(id) => around(out, at, b"attempt ", id, b" failed"),
-        Event::EchRetry(id, b) => retry(out, at, body, id, b),
+        let o = offered_of(self.body, event);
+        let kept = o.services.list.iter().zip(&o.names.list).zip(&o.echs.list);
+        for (i, ((service, name), ech)) in kept.take(n).enumerate() {
+            let offer = Offer { service, name, ech };
+            write!(f, "{}{offer}", if i == 0 { ": " } else { "; " })?;
+        }
+        Ok(())
+    }
+
+    // The first n addresses of an answer.
+    fn addresses<W: fmt::Write>(
+        &self,
+        f: &mut fmt::Formatter<W>,
+        event: Event,
+        kind: Kind,
+        n: usize,
+    ) -> fmt::Result {
+        if n == 0 {
+            return f.write_str(": no address");
+        }
+        let l = addresses_of(self.body, event);
+        for (i, address) in l.list.iter().take(n).enumerate() {
+            let address = Address { kind, address };
+            write!(f, "{}{address}", if i == 0 { ": " } else { ", " })?;
+        }
+        Ok(())
+    }
+
+    fn event<W: fmt::Write>(&self, f: &mut fmt::Formatter<W>, event: Event) -> fmt::Result {
+        match event {
+            Event::Call => f.write_str("calls"),
+            Event::Fails(k, id, stale) => write!(f, "{}: failed", Answered { kind: k, id, stale }),
+            Event::Holds(k, id, stale, items) => {
+                write!(f, "{}", Answered { kind: k, id, stale })?;
+                match k {
+                    Kind::Https => self.offers(f, event, items.count),
+                    _ => self.addresses(f, event, k, items.count),
+                }
+            }
+            Event::Success(id) => write!(f, "attempt {id} succeeded"),
+            Event::Failure(id) => write!(f, "attempt {id} failed"),
+            Event::EchRetry(id, b) => {
+                let ech = Sealed(part(self.body, b));
+                write!(f, "attempt {id} failed, retry with {ech}")
+            }
+        }
     }
 }
 
-// An event; of a body that isn't sound only its length.
-pub fn event(out: &mut [u8], at: usize, body: &[u8], read: EventRead) -> usize {
-    match read {
-        EventRead::Refused(_, _) => {
-            let n = body.len();
-            around(
-                out,
-                at,
-                b"a body of length ",
-                n as u64,
-                b" that isn't sound",
-            )
+impl fmt::Display for Said<'_> {
+    fn fmt<W: fmt::Write>(&self, f: &mut fmt::Formatter<W>) -> fmt::Result {
+        match self.read {
+            Ok((event, _)) => self.event(f, event),
+            Err(_) => {
+                let n = self.body.len();
+                write!(f, "a body of length {n} that isn't sound")
+            }
         }
-        EventRead::Event(e, _) => said(out, at, body, e),
+    }
+}
+
+// The begin of an answer's words.
+#[derive(Clone, Copy)]
+struct Answered {
+    kind: Kind,
+    id: u64,
+    stale: bool,
+}
+
+impl fmt::Display for Answered {
+    fn fmt<W: fmt::Write>(&self, f: &mut fmt::Formatter<W>) -> fmt::Result {
+        let stale = if self.stale { ", stale" } else { "" };
+        write!(f, "answer to query {}, {}{stale}", self.id, kind(self.kind))
     }
 }

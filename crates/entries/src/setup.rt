@@ -1,113 +1,116 @@
 // What a configuration says.
 use configuration::{HostSpan, Setup, fill_configuration};
-use records::names::{Name, Names};
-use records::rules::{Alt, AltHost, Alts, Host, Mode, Port, Rules, Timing};
-use telling::address::{four, six};
-use telling::piece::{around, name, part, text};
-use wording::words::{mode, port, preference, version, versions};
+use records::names::Name;
+use records::rules::{Alt, AltHost, Host, Rules, Timing};
+use std::fmt;
+use telling::address::{Four, Six};
+use telling::piece::{Letters, part};
+use wording::words::{PortOf, VersionSet, mode, preference, version};
 
-// The origin's host.
-pub fn origin(out: &mut [u8], at: usize, body: &[u8], h: HostSpan) -> usize {
-    match h {
-        HostSpan::Absent => at,
-        HostSpan::Named(b) => part(out, at, body, b),
-        HostSpan::V4(a) => four(out, at, a as u64),
-        HostSpan::V6(hi, lo) => six(out, at, hi, lo, 0),
-    }
+// The origin's host, as a configuration's body has it.
+#[derive(Clone, Copy)]
+pub struct Origin<'a> {
+    pub body: &'a [u8],
+    pub host: HostSpan,
 }
 
-fn own_host(out: &mut [u8], at: usize, h: Host, n: Name) -> usize {
-    match h {
-        Host::Named => name(out, at, n),
-        Host::V4(a) => four(out, at, a as u64),
-        Host::V6(hi, lo) => six(out, at, hi, lo, 0),
-    }
-}
-
-fn alt_host(out: &mut [u8], at: usize, h: AltHost, n: Name) -> usize {
-    match h {
-        AltHost::Origin => text(out, at, b"the origin's host"),
-        AltHost::Own(o) => own_host(out, at, o, n),
-    }
-}
-
-fn place(out: &mut [u8], at: usize, h: AltHost, n: Name, o: Port) -> usize {
-    let p = text(out, at, b" at ");
-    let q = alt_host(out, p, h, n);
-    let r = text(out, q, b", ");
-    port(out, r, o)
-}
-
-fn alternative(out: &mut [u8], at: usize, a: Alt, n: Name) -> usize {
-    let v = a.version;
-    let h = a.host;
-    let o = a.port;
-    let p = text(out, at, b"; alternative service ");
-    let q = version(out, p, v);
-    place(out, q, h, n, o)
-}
-
-fn alternatives(out: &mut [u8], at: usize, l: Alts, names: Names) -> usize {
-    let n = l.count;
-    let mut p = at;
-    let mut i: usize = 0;
-    while i < 4 {
-        if n <= i {
-            return p;
+impl fmt::Display for Origin<'_> {
+    fn fmt<W: fmt::Write>(&self, f: &mut fmt::Formatter<W>) -> fmt::Result {
+        match self.host {
+            HostSpan::Absent => Ok(()),
+            HostSpan::Named(b) => write!(f, "{}", Letters(part(self.body, b))),
+            HostSpan::V4(a) => write!(f, "{}", Four(a as u64)),
+            HostSpan::V6(hi, lo) => write!(f, "{}", Six { hi, lo, scope: 0 }),
         }
-        let a = l.list[i];
-        let k = i + 1;
-        let own = names.list[k];
-        p = alternative(out, p, a, own);
-        i += 1;
     }
-    p
 }
 
-fn choice(out: &mut [u8], at: usize, m: Mode, ech: bool) -> usize {
-    let p = text(out, at, b"; ");
-    let q = mode(out, p, m);
-    if ech {
-        return text(out, q, b"; ECH on");
+// An alternative service; the name is its own host's, where it has one.
+#[derive(Clone, Copy)]
+struct Alternative<'a> {
+    alt: &'a Alt,
+    name: &'a Name,
+}
+
+impl fmt::Display for Alternative<'_> {
+    fn fmt<W: fmt::Write>(&self, f: &mut fmt::Formatter<W>) -> fmt::Result {
+        let v = version(self.alt.version);
+        write!(f, "; alternative service {v} at ")?;
+        match self.alt.host {
+            AltHost::Origin => f.write_str("the origin's host")?,
+            AltHost::Own(Host::Named) => {
+                write!(f, "{}", Letters(self.name.as_bytes()))?
+            }
+            AltHost::Own(Host::V4(a)) => write!(f, "{}", Four(a as u64))?,
+            AltHost::Own(Host::V6(hi, lo)) => write!(f, "{}", Six { hi, lo, scope: 0 })?,
+        }
+        write!(f, ", {}", PortOf(self.alt.port))
     }
-    text(out, q, b"; ECH off")
 }
 
-fn ways(out: &mut [u8], at: usize, r: Rules) -> usize {
-    let v = r.versions;
-    let f = r.preference;
-    let m = r.mode;
-    let p = around(out, at, b", port ", r.port as u64, b"; ");
-    let q = versions(out, p, v);
-    let s = text(out, q, b"; ");
-    let t = preference(out, s, f);
-    choice(out, t, m, r.ech)
-}
+// What attempts are allowed.
+#[derive(Clone, Copy)]
+struct Allowed(Rules);
 
-fn delays(out: &mut [u8], at: usize, t: Timing) -> usize {
-    let p = around(out, at, b"; resolution delay ", t.resolution, b" ns");
-    let q = around(out, p, b"; attempt delay ", t.delay, b" ns");
-    around(out, q, b", multiplier ", t.multiplier as u64, b"")
-}
-
-fn pace(out: &mut [u8], at: usize, t: Timing) -> usize {
-    let p = delays(out, at, t);
-    if t.wait {
-        return text(out, p, b"; waits for an address of the preferred family");
+impl fmt::Display for Allowed {
+    fn fmt<W: fmt::Write>(&self, f: &mut fmt::Formatter<W>) -> fmt::Result {
+        let r = self.0;
+        let ech = if r.ech { "on" } else { "off" };
+        write!(f, ", port {}; {}", r.port, VersionSet(r.versions))?;
+        write!(
+            f,
+            "; {}; {}; ECH {ech}",
+            preference(r.preference),
+            mode(r.mode)
+        )
     }
-    p
 }
 
-pub fn setup(out: &mut [u8], at: usize, body: &[u8], s: Setup) -> usize {
-    let host = s.origin;
-    let rules = s.rules;
-    let timing = s.timing;
-    let c = fill_configuration(body, s);
-    let alts = c.alts;
-    let names = c.names;
-    let p = text(out, at, b"Configuration: origin ");
-    let q = origin(out, p, body, host);
-    let r = ways(out, q, rules);
-    let t = pace(out, r, timing);
-    alternatives(out, t, alts, names)
+#[derive(Clone, Copy)]
+struct Pace(Timing);
+
+impl fmt::Display for Pace {
+    fn fmt<W: fmt::Write>(&self, f: &mut fmt::Formatter<W>) -> fmt::Result {
+        let t = self.0;
+        write!(f, "; resolution delay {} ns", t.resolution)?;
+        write!(
+            f,
+            "; attempt delay {} ns, multiplier {}",
+            t.delay, t.multiplier
+        )?;
+        if t.wait {
+            f.write_str("; waits for an address of the preferred family")?;
+        }
+        Ok(())
+    }
+}
+
+// A configuration, and its body.
+#[derive(Clone, Copy)]
+pub struct Configuration<'a> {
+    pub body: &'a [u8],
+    pub setup: Setup,
+}
+
+impl fmt::Display for Configuration<'_> {
+    fn fmt<W: fmt::Write>(&self, f: &mut fmt::Formatter<W>) -> fmt::Result {
+        let s = self.setup;
+        let origin = Origin {
+            body: self.body,
+            host: s.origin,
+        };
+        write!(
+            f,
+            "Configuration: origin {origin}{}{}",
+            Allowed(s.rules),
+            Pace(s.timing)
+        )?;
+        let c = fill_configuration(self.body, s);
+        // The first name is the origin's.
+        let own = c.alts.list.iter().zip(c.names.list.iter().skip(1));
+        for (alt, name) in own.take(c.alts.count) {
+            write!(f, "{}", Alternative { alt, name })?;
+        }
+        Ok(())
+    }
 }

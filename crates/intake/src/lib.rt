@@ -3,7 +3,7 @@
 #![tactic(auto)]
 
 ghost use Rattle.std.specs.Io.KnownBytes.{Consumes, IsAtEnd};
-ghost use Rattle.std.specs.Prelude.{◌≡◌, ◌≤◌, ◌<◌, length, take, IfOk, OnErr, ℕ};
+ghost use Rattle.std.specs.Prelude.{◌≡◌, ◌≤◌, ◌<◌, length, take, IfOk, IfSome, OnErr, ℕ};
 
 use console::complain;
 use std::io;
@@ -11,34 +11,16 @@ use std::io::Read;
 
 const LONGEST: usize = 65536;
 
-#[derive(Drop)]
-pub enum Next {
-    End,
-    Tape(u64, u64),
+// What stands before a tape: its length, and the size of the buffer for its answers.
+#[derive(Clone, Copy)]
+pub struct Sizes {
+    pub tape: u64,
+    pub room: u64,
 }
 
-#[derive(Drop)]
-enum Head {
-    End,
-    Cut,
-    Sizes(u64, u64),
-}
-
-fn wide(b: u8) -> u64 {
-    b as u64
-}
-
-// A number in 8 bytes, low byte first, from the place at on.
-fn eight(head: &[u8; 16], at: usize) -> u64
-    requires { at ≤ 8 }
-{
-    let mut v: u64 = 0;
-    let mut k: usize = 8;
-    while 0 < k {
-        k -= 1;
-        v = (v << 8) | wide(head[at + k]);
-    }
-    v
+// A number in 8 bytes, low byte first.
+fn eight(bytes: &[u8]) -> u64 {
+    bytes.iter().rev().fold(0, |n, b| n << 8 | *b as u64)
 }
 
 // Reads until the buffer is full or the input ends; how many bytes came. After an error what came before it stands at the buffer's front.
@@ -50,6 +32,7 @@ pub fn read_full<R: Read>(stdin: &mut R, buf: &mut [u8]) -> io::Result<usize>
     ensures length { length buf.new ≡ length buf.old }
 {
     let mut done: usize = 0;
+    // No `for`: how many bytes a read gives is known only afterwards.
     while done < buf.len() {
         let n = stdin.read(&mut buf[done..])?;
         if n == 0 {
@@ -60,66 +43,65 @@ pub fn read_full<R: Read>(stdin: &mut R, buf: &mut [u8]) -> io::Result<usize>
     Ok(done)
 }
 
-fn read_head(stdin: &mut impl Read) -> io::Result<Head> {
-    let mut head = [0u8; 16];
-    let got = read_full(stdin, &mut head)?;
-    if got == 0 {
-        return Ok(Head::End);
-    }
-    if got < 16 {
-        return Ok(Head::Cut);
-    }
-    Ok(Head::Sizes(eight(&head, 0), eight(&head, 8)))
-}
-
-fn tell(stderr: &impl Print, program: &[u8], fault: &[u8]) -> io::Result<()> {
-    complain(stderr, program)?;
-    complain(stderr, fault)
-}
-
-// Reads a tape of this length; false if the room or the input has no such tape.
-fn filled(
+// Reads what stands before a tape; None at the end of the input.
+fn read_head(
     stdin: &mut impl Read,
     stderr: &impl Print,
-    tape: &mut [u8],
-    long: u64,
-    program: &[u8],
-) -> io::Result<bool> {
-    if (tape.len() as u64) < long {
-        tell(stderr, program, b": a tape of more than 65,536 bytes\n")?;
-        return Ok(false);
+    program: &str,
+) -> io::Result<Option<Sizes>> {
+    let mut head = [0u8; 16];
+    let got = read_full(stdin, &mut head)?;
+    if got == 16 {
+        return Ok(Some(Sizes {
+            tape: eight(&head[..8]),
+            room: eight(&head[8..]),
+        }));
     }
-    let n = long as usize;
-    let got = read_full(stdin, &mut tape[..n])?;
-    if got < n {
-        tell(stderr, program, b": the input ends inside a tape\n")?;
-        return Ok(false);
+    if 0 < got {
+        complain(stderr, program, "the input ends before a tape")?;
     }
-    Ok(true)
+    Ok(None)
 }
 
-// Reads the next tape: its length and the answer buffer's size. A longer tape, or an input that ends inside one, is told on standard error
-// under the program's name, and is the end.
+// Reads the next tape; None at the end of the input. A longer tape, or an input that ends inside one, is told on standard error under the
+// program's name, and is the end.
 pub fn next_tape(
     stdin: &mut impl Read,
     stderr: &impl Print,
     tape: &mut [u8; LONGEST],
-    program: &[u8],
-) -> io::Result<Next> {
-    let h = read_head(stdin)?;
-    match h {
-        Head::End => Ok(Next::End),
-        Head::Cut => {
-            tell(stderr, program, b": the input ends before a tape\n")?;
-            Ok(Next::End)
-        }
-        Head::Sizes(long, room) => {
-            if filled(stdin, stderr, tape, long, program)? {
-                return Ok(Next::Tape(long, room));
-            }
-            Ok(Next::End)
-        }
+    program: &str,
+) -> io::Result<Option<Sizes>> {
+    let Some(sizes) = read_head(stdin, stderr, program)? else {
+        return Ok(None);
+    };
+    if (LONGEST as u64) < sizes.tape {
+        complain(stderr, program, "a tape of more than 65,536 bytes")?;
+        return Ok(None);
     }
+    let n = sizes.tape as usize;
+    if read_full(stdin, &mut tape[..n])? < n {
+        complain(stderr, program, "the input ends inside a tape")?;
+        return Ok(None);
+    }
+    Ok(Some(sizes))
+}
+
+// Reads the one tape that the input is, and gives its length. None of a longer one, which is told on standard error.
+pub fn only_tape(
+    stdin: &mut impl Read,
+    stderr: &impl Print,
+    tape: &mut [u8; LONGEST],
+    program: &str,
+) -> io::Result<Option<usize>>
+    ensures { IfOk result (λ r. IfSome r (λ n. n ≤ 65536)) }
+{
+    let n = read_full(stdin, &mut tape[..])?;
+    let mut more = [0u8; 1];
+    if n == LONGEST && 0 < read_full(stdin, &mut more)? {
+        complain(stderr, program, "more than 65,536 bytes")?;
+        return Ok(None);
+    }
+    Ok(Some(n))
 }
 
 pub fn least(a: u64, b: usize) -> usize

@@ -4,59 +4,20 @@
 // answers to no such tape pass (proved: tapes/Claims room_for). A longer tape, or an input that ends inside one, is told on standard error and ends the program.
 #![tactic(auto)]
 
-use console::{number, text};
-use intake::{Next, least, next_tape};
+use intake::{least, next_tape};
 use std::io;
-use std::io::Read;
 
 const TAPE: usize = 65536;
 
 const ROOM: usize = 336434;
 
-fn field(rt: &impl Print, n: u64, end: &[u8]) -> io::Result<()> {
-    number(rt, n)?;
-    text(rt, end)
-}
-
-fn first(rt: &impl Print, bytes: &[u8], n: usize) -> io::Result<()> {
-    if n <= bytes.len() {
-        text(rt, &bytes[..n])?;
-    }
-    Ok(())
-}
-
 fn answer(rt: &impl Print, tape: &[u8], out: &mut [u8]) -> io::Result<()> {
     let r = replay::tape::replay(tape, out);
-    field(rt, r.status as u64, b" ")?;
-    field(rt, r.place as u64, b" ")?;
-    field(rt, r.written as u64, b" ")?;
-    field(rt, r.calls as u64, b" ")?;
-    field(rt, replay::check::tape_check(tape) as u64, b"\n")?;
-    first(rt, out, r.written)
-}
-
-// Answers the tape of this length that stands in the buffer.
-fn one(rt: &impl Print, tape: &[u8], out: &mut [u8], long: u64, room: u64) -> io::Result<()> {
-    let n = least(long, tape.len());
-    let m = least(room, out.len());
-    answer(rt, &tape[..n], &mut out[..m])
-}
-
-// Answers the next tape; false if there is none.
-fn next(
-    rt: &impl Print,
-    stdin: &mut impl Read,
-    stderr: &impl Print,
-    tape: &mut [u8; TAPE],
-    out: &mut [u8; ROOM],
-) -> io::Result<bool> {
-    let t = next_tape(stdin, stderr, tape, b"many")?;
-    match t {
-        Next::End => Ok(false),
-        Next::Tape(long, room) => {
-            one(rt, tape, out, long, room)?;
-            Ok(true)
-        }
+    let check = replay::check::tape_check(tape);
+    println!(rt; "{} {} {} {} {check}", r.status, r.place, r.written, r.calls)?;
+    match out.get(..r.written) {
+        Some(answers) => rt.write_all(answers),
+        None => Ok(()),
     }
 }
 
@@ -67,9 +28,12 @@ fn main(rt: HostRuntime) -> io::Result<()> {
     let mut out = [0u8; ROOM];
     // More tapes than any input has.
     for _ in 0..u64::MAX {
-        if !next(&rt, &mut stdin, &stderr, &mut tape, &mut out)? {
+        let Some(sizes) = next_tape(&mut stdin, &stderr, &mut tape, "many")? else {
             return Ok(());
-        }
+        };
+        let n = least(sizes.tape, TAPE);
+        let m = least(sizes.room, ROOM);
+        answer(&rt, &tape[..n], &mut out[..m])?;
     }
     Ok(())
 }

@@ -1,115 +1,85 @@
 // The row of calls and timers: a stroke for each call, a bar for each timer, and a mark where the clock went back.
-use chart::markup::{bar, mark};
+use chart::markup::{Bar, Mark};
 use chart::page::{BACKS, WAITS};
 use chart::scale::{Scale, column};
-use plot::output::put;
-use reader::{Answer, AnswerRead, answer_at};
+use reader::{Answer, answer_at};
 use replay::frames::{FrameRead, frame_at};
 use std::io;
 
-// The last event's moment, the last call's, its column, and the timer that it was given, 0 for none.
-#[derive(Clone, Copy)]
+// The last call's moment, its column, and the timer that it was given, 0 for none; before the first call all are 0.
+#[derive(Clone, Copy, Default)]
 struct Wait {
-    any: bool,
-    last: u64,
     since: u64,
     column: u64,
     timer: u64,
 }
 
-fn timer_of(a: Answer) -> u64 {
-    match a {
-        Answer::Timer(ns) => ns,
-        _ => 0,
+impl Wait {
+    // When it ends: its timer runs out, or an earlier call comes. If the clock went back, it took no time.
+    fn end(&self, next: u64) -> u64 {
+        if next < self.since {
+            return self.since;
+        }
+        if next - self.since < self.timer {
+            return next;
+        }
+        self.since.wrapping_add(self.timer)
     }
 }
 
-fn is_call(a: Answer) -> bool {
-    match a {
-        Answer::Taken(_) => false,
-        _ => true,
-    }
+// The row that is drawn: the wait, and the last event's moment.
+#[derive(Clone, Copy)]
+struct Row {
+    scale: Scale,
+    wait: Wait,
+    last: Option<u64>,
 }
 
-// When a wait ends: its timer runs out, or an earlier call comes. If the clock went back, it took no time.
-fn wait_end(w: Wait, next: u64) -> u64 {
-    if next < w.since {
-        return w.since;
+impl Row {
+    fn draw_timer(&self, rt: &impl Print, next: u64) -> io::Result<()> {
+        let from = column(self.scale, self.wait.since);
+        let until = column(self.scale, self.wait.end(next));
+        if from < until {
+            let class = "timer";
+            let y = WAITS;
+            rt.print(Bar { class, from, until, y })?;
+        }
+        Ok(())
     }
-    if next - w.since < w.timer {
-        return next;
-    }
-    std::num::wrapping_add_u64(w.since, w.timer)
-}
 
-fn draw_timer(rt: &impl Print, line: &mut [u8], s: Scale, w: Wait, next: u64) -> io::Result<()> {
-    let from = column(s, w.since);
-    let until = column(s, wait_end(w, next));
-    if from < until {
-        let n = bar(line, 0, b"timer", from, until, WAITS);
-        put(rt, line, n)?;
+    // Draws an event and the answer to it.
+    fn draw(&mut self, rt: &impl Print, answer: Answer, moment: u64) -> io::Result<()> {
+        let x = column(self.scale, moment);
+        if let Some(last) = self.last {
+            if moment < last {
+                let shape = "back";
+                let y = BACKS;
+                rt.print(Mark { shape, x, y })?;
+            }
+        }
+        self.last = Some(moment);
+        match answer {
+            Answer::Taken(_) => Ok(()),
+            Answer::Timer(ns) => self.call(rt, moment, x, ns),
+            _ => self.call(rt, moment, x, 0),
+        }
     }
-    Ok(())
-}
 
-// A stroke at a column that isn't that of the call before.
-fn draw_call(rt: &impl Print, line: &mut [u8], w: Wait, x: u64) -> io::Result<()> {
-    if w.column != x {
-        let n = mark(line, 0, b"begin", x, WAITS);
-        put(rt, line, n)?;
+    // Draws the wait before a call, and a stroke for the call at a column that isn't that of the call before.
+    fn call(&mut self, rt: &impl Print, moment: u64, x: u64, timer: u64) -> io::Result<()> {
+        self.draw_timer(rt, moment)?;
+        if self.wait.column != x {
+            let shape = "begin";
+            let y = WAITS;
+            rt.print(Mark { shape, x, y })?;
+        }
+        self.wait = Wait {
+            since: moment,
+            column: x,
+            timer,
+        };
+        Ok(())
     }
-    Ok(())
-}
-
-// Draws a call, and the wait before it; what is waited for then.
-fn called(
-    rt: &impl Print,
-    line: &mut [u8],
-    s: Scale,
-    w: Wait,
-    a: Answer,
-    moment: u64,
-) -> io::Result<Wait> {
-    let x = column(s, moment);
-    draw_timer(rt, line, s, w, moment)?;
-    draw_call(rt, line, w, x)?;
-    Ok(Wait {
-        any: true,
-        last: moment,
-        since: moment,
-        column: x,
-        timer: timer_of(a),
-    })
-}
-
-fn draw_back(rt: &impl Print, line: &mut [u8], s: Scale, w: Wait, moment: u64) -> io::Result<()> {
-    if !w.any {
-        return Ok(());
-    }
-    if moment < w.last {
-        let n = mark(line, 0, b"back", column(s, moment), BACKS);
-        put(rt, line, n)?;
-    }
-    Ok(())
-}
-
-// Draws an event and the answer to it.
-fn happened(
-    rt: &impl Print,
-    line: &mut [u8],
-    s: Scale,
-    w: Wait,
-    a: Answer,
-    moment: u64,
-) -> io::Result<Wait> {
-    draw_back(rt, line, s, w, moment)?;
-    if is_call(a) {
-        return called(rt, line, s, w, a, moment);
-    }
-    let mut out = w;
-    out.any = true;
-    out.last = moment;
-    Ok(out)
 }
 
 // Draws the events from a place up to an end.
@@ -117,32 +87,28 @@ pub fn draw_waits(
     rt: &impl Print,
     tape: &[u8],
     answers: &[u8],
-    line: &mut [u8],
-    s: Scale,
+    scale: Scale,
     from: usize,
     end: usize,
 ) -> io::Result<()> {
-    let mut w = Wait {
-        any: false,
-        last: 0,
-        since: 0,
-        column: 0,
-        timer: 0,
+    let mut row = Row {
+        scale,
+        wait: Wait::default(),
+        last: None,
     };
     let mut place: usize = 0;
     let mut at = from;
+    // No `for`: where the next event begins is known only when this one is read.
     while at < end {
-        let f = frame_at(tape, at);
-        let FrameRead::Frame(moment, _, next) = f else {
+        let FrameRead::Frame(moment, _, next) = frame_at(tape, at) else {
             return Ok(());
         };
-        let r = answer_at(answers, place);
-        let AnswerRead::Answer(a, after) = r else {
+        let Ok((answer, after)) = answer_at(answers, place) else {
             return Ok(());
         };
-        w = happened(rt, line, s, w, a, moment)?;
+        row.draw(rt, answer, moment)?;
         place = after;
         at = next;
     }
-    draw_timer(rt, line, s, w, w.last)
+    row.draw_timer(rt, row.last.unwrap_or(0))
 }

@@ -3,6 +3,7 @@ ghost use Rattle.std.specs.Prelude.{◌≡◌, ◌%◌};
 ghost use Rattle.probes.specs.Flat.{number_at};
 
 // Number k from base on.
+#[tactic(auto, unfolding(crate::specs::Flat::number_at))]
 pub fn number(list: &[u64], base: usize, k: usize) -> u64
     ensures { result ≡ number_at list.now base k }
 {

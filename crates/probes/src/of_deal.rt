@@ -7,12 +7,7 @@ use deal::Dealing;
 fn dealing_number(d: Dealing) -> u8
     ensures { result ≡ dealing_number d }
 {
-    match d {
-        Dealing::Dealt => 0,
-        Dealing::TooLong => 1,
-        Dealing::OtherRoom => 2,
-        Dealing::NoGroup => 3,
-    }
+    d as u8
 }
 
 #[unsafe(no_mangle)]

@@ -12,29 +12,18 @@ use records::services::Services;
 
 // The seven numbers from base on, as far as there is room.
 fn put(out: &mut [u64], base: usize, numbers: [u64; 7]) {
-    let mut k: usize = 0;
-    while k < 7 {
-        let i = std::num::wrapping_add_usize(base, k);
-        if out.len() <= i {
-            return;
+    if let Some(room) = out.get_mut(base..) {
+        for (word, number) in room.iter_mut().zip(&numbers) {
+            *word = *number;
         }
-        out[i] = numbers[k];
-        k += 1;
     }
 }
 
 // The endpoints of a listing, seven numbers each.
 fn put_listing(out: &mut [u64], l: Listing, r: Rules, a: Alts, d: Answers, s: Services) {
-    let n = l.count;
-    let mut k: usize = 0;
-    while k < 272 {
-        if n <= k {
-            return;
-        }
-        let item = l.list[k];
-        let e = endpoint_at(r, a, d, s, item);
+    for (k, item) in l.list.iter().take(l.count).enumerate() {
+        let e = endpoint_at(r, a, d, s, *item);
         put(out, 7 * k, endpoint_numbers(e));
-        k += 1;
     }
 }
 
@@ -58,15 +47,11 @@ pub extern "C" fn list_rounds(state: &[u64], bytes: &[u8], rounds: usize) -> u64
     let s = services(state);
     let n = names(state, LENGTHS, bytes);
     let mut sum: u64 = 0;
-    let mut left = rounds;
-    while 0 < left {
+    for left in (1..=rounds).rev() {
         r.port = half(left as u64);
         let l = endpoints_to_attempt(r, a, q, s, n);
-        let at = left % 272;
-        let x = l.list[at];
-        sum = std::num::wrapping_add_u64(sum, l.count as u64);
-        sum = std::num::wrapping_add_u64(sum, x.port as u64);
-        left -= 1;
+        let x = l.list[left % 272];
+        sum = sum.wrapping_add(l.count as u64).wrapping_add(x.port as u64);
     }
     sum
 }

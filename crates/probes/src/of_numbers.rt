@@ -5,58 +5,60 @@ ghost use Rattle.numbers.specs.Names.{name_ok, longest_name, longest_origin};
 ghost use Rattle.numbers.specs.Numbers.{read_number, number_bytes};
 ghost use Rattle.numbers.specs.Put.{put_answer, put_bytes};
 ghost use Rattle.numbers.specs.Refusals.{refusal_number};
-ghost use Rattle.numbers.specs.Shown.{read_shown, span_shown, wrote_shown};
+ghost use Rattle.numbers.specs.Shown.{shown, wrote_shown};
 ghost use Rattle.probes.specs.Words.{filled, number_of, read_words, span_words, put_number, put_words, flag_of, refusal_at};
 
 use super::words::put_word;
-use numbers::field::SpanRead;
-use numbers::number::Read;
-use numbers::put::Wrote;
+use numbers::field::Span;
 use numbers::refusal::{Refusal, refusal_number};
 
-fn tell_read(r: Read, words: &mut [u64]) -> u8
-    ensures answer { result ≡ number_of (read_shown r) }
-    ensures values { words.new ≡ filled words.old (read_words (read_shown r)) }
+#[tactic(auto, unfolding(crate::specs::Words::filled))]
+fn tell_read(r: Result<(u64, usize), Refusal>, words: &mut [u64]) -> u8
+    ensures answer { result ≡ number_of (shown r) }
+    ensures values { words.new ≡ filled words.old (read_words (shown r)) }
 {
     match r {
-        Read::Refused(e) => refusal_number(e),
-        Read::Number(v, next) => {
+        Ok((v, next)) => {
             put_word(words, 0, v);
             put_word(words, 1, next as u64);
             0
         }
+        Err(e) => refusal_number(e),
     }
 }
 
-fn tell_span(r: SpanRead, words: &mut [u64]) -> u8
-    ensures answer { result ≡ number_of (span_shown r) }
-    ensures values { words.new ≡ filled words.old (span_words (span_shown r)) }
+#[tactic(auto, unfolding(crate::specs::Words::filled))]
+fn tell_span(r: Result<(Span, usize), Refusal>, words: &mut [u64]) -> u8
+    ensures answer { result ≡ number_of (shown r) }
+    ensures values { words.new ≡ filled words.old (span_words (shown r)) }
 {
     match r {
-        SpanRead::Refused(e) => refusal_number(e),
-        SpanRead::Bytes(b, next) => {
+        Ok((b, next)) => {
             put_word(words, 0, b.start as u64);
             put_word(words, 1, b.len as u64);
             put_word(words, 2, next as u64);
             0
         }
+        Err(e) => refusal_number(e),
     }
 }
 
-pub fn tell_wrote(r: Wrote, words: &mut [u64]) -> u8
+#[tactic(auto, unfolding(crate::specs::Words::filled))]
+pub fn tell_wrote(r: Result<usize, Refusal>, words: &mut [u64]) -> u8
     ensures answer { result ≡ put_number (wrote_shown r) }
     ensures values { words.new ≡ filled words.old (put_words (wrote_shown r)) }
 {
     match r {
-        Wrote::Refused(e) => refusal_number(e),
-        Wrote::Next(next) => {
+        Ok(next) => {
             put_word(words, 0, next as u64);
             0
         }
+        Err(e) => refusal_number(e),
     }
 }
 
 // The refusal at a place of the table, from 0; past its end the first.
+#[tactic(auto, unfolding(crate::specs::Words::refusal_at))]
 fn refusal_at(place: usize) -> Refusal
     ensures { result ≡ refusal_at place }
 {

@@ -38,6 +38,7 @@ pub extern "C" fn probe_first_id() -> u64
 }
 
 // The id that is given where id comes next, and the one that comes next then.
+#[tactic(auto, unfolding(crate::specs::Words::filled))]
 #[unsafe(no_mangle)]
 pub extern "C" fn probe_next_id(id: u64, words: &mut [u64])
     ensures { words.new ≡ filled words.old (issued_words (next_id (record { next = id }))) }

@@ -48,11 +48,8 @@ pub extern "C" fn probe_same_names(lengths: &[u64], bytes: &[u8], words: &mut [u
     ensures { words.new ≡ filled words.old (same_names (names_of lengths.now 0 bytes.now)).list }
 {
     let same = same_names(names(lengths, 0, bytes));
-    let mut p: usize = 0;
-    while p < 14 {
-        let class = same.list[p];
-        put_word(words, p, class as u64);
-        p += 1;
+    for p in 0..14 {
+        put_word(words, p, same.list[p] as u64);
     }
 }
 

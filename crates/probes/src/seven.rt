@@ -6,6 +6,7 @@ use super::flat::{byte, half, number, word};
 use records::endpoints::{Endpoint, Rank, Target, rank_number, target_number};
 use records::names::EchPlace;
 
+#[tactic(auto, unfolding(crate::specs::Flat::target_of))]
 fn target(case: u64, hi: u64, lo: u64, scope: u64) -> Target
     ensures { result ≡ target_of case hi lo scope }
 {
@@ -16,6 +17,7 @@ fn target(case: u64, hi: u64, lo: u64, scope: u64) -> Target
     }
 }
 
+#[tactic(auto, unfolding(crate::specs::Flat::rank_of))]
 fn rank(n: u64) -> Rank
     ensures { result ≡ rank_of n }
 {
@@ -28,6 +30,7 @@ fn rank(n: u64) -> Rank
 }
 
 // 0 none, else the place and 1.
+#[tactic(auto, unfolding(crate::specs::Flat::ech_place_of))]
 pub fn ech_place(n: u64) -> EchPlace
     ensures { result ≡ ech_place_of n }
 {
@@ -38,6 +41,7 @@ pub fn ech_place(n: u64) -> EchPlace
 }
 
 // The endpoint whose numbers stand from base on.
+#[tactic(auto, unfolding(crate::specs::Flat::endpoint_of))]
 pub fn endpoint(list: &[u64], base: usize) -> Endpoint
     ensures { result ≡ endpoint_of list.now base }
 {

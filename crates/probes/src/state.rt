@@ -4,6 +4,7 @@ use super::seven::ech_place;
 use records::queries::{Addr, Addresses, Answer, Answers, Kind, Queries, Query, Refresh};
 use records::rules::{Alt, AltHost, Alts, Host, Mode, Port, Preference, Rules, Version, Versions};
 use records::services::{Hint, Service, Services};
+use std::array::from_fn;
 
 // Where each part starts in the list.
 const RULES: usize = 0;
@@ -143,15 +144,9 @@ fn query(list: &[u64], base: usize) -> Query {
 }
 
 pub fn queries(list: &[u64]) -> Queries {
-    let mut all = [query(list, QUERIES + 1); 16];
-    let mut i: usize = 1;
-    while i < 16 {
-        all[i] = query(list, QUERIES + 1 + 4 * i);
-        i += 1;
-    }
     Queries {
         count: size(list, QUERIES, 0),
-        list: all,
+        list: from_fn(|i| query(list, QUERIES + 1 + 4 * i)),
     }
 }
 
@@ -165,25 +160,15 @@ fn addr(list: &[u64], base: usize) -> Addr {
 }
 
 fn addresses(list: &[u64], base: usize) -> Addresses {
-    let mut all = [addr(list, base); 8];
-    let mut from = base;
-    let mut i: usize = 0;
-    while i < 8 {
-        all[i] = addr(list, from);
-        from = std::num::wrapping_add_usize(from, 3);
-        i += 1;
+    Addresses {
+        list: from_fn(|i| addr(list, base.wrapping_add(3 * i))),
     }
-    Addresses { list: all }
 }
 
 pub fn answers(list: &[u64]) -> Answers {
-    let mut all = [addresses(list, ANSWERS); 16];
-    let mut i: usize = 1;
-    while i < 16 {
-        all[i] = addresses(list, ANSWERS + 24 * i);
-        i += 1;
+    Answers {
+        list: from_fn(|i| addresses(list, ANSWERS + 24 * i)),
     }
-    Answers { list: all }
 }
 
 fn hints4(list: &[u64], base: usize) -> [u32; 4] {
@@ -197,7 +182,7 @@ fn hints4(list: &[u64], base: usize) -> [u32; 4] {
 
 // An address of which the scope isn't read.
 fn hint(list: &[u64], base: usize, k: usize) -> Hint {
-    let at = std::num::wrapping_add_usize(base, k);
+    let at = base.wrapping_add(k);
     Hint {
         hi: number(list, at, 0),
         lo: number(list, at, 1),
@@ -215,8 +200,8 @@ fn hints6(list: &[u64], base: usize) -> [Hint; 4] {
 
 // Priority, place of the name, ECH place, versions, port; hints of IPv4, then of IPv6.
 fn service(list: &[u64], base: usize) -> Service {
-    let at4 = std::num::wrapping_add_usize(base, 6);
-    let at6 = std::num::wrapping_add_usize(base, 11);
+    let at4 = base.wrapping_add(6);
+    let at6 = base.wrapping_add(11);
     Service {
         priority: half(number(list, base, 0)),
         name: byte(number(list, base, 1)),

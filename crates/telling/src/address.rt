@@ -1,39 +1,56 @@
 // Addresses as text.
-use super::piece::{around, hex, number, text};
-
-// A byte and what stands after it.
-fn byte(out: &mut [u8], at: usize, n: u64, after: &[u8]) -> usize {
-    let p = number(out, at, n % 256);
-    text(out, p, after)
-}
+use std::fmt;
 
 // An IPv4 address, from its 32 bits.
-pub fn four(out: &mut [u8], at: usize, a: u64) -> usize {
-    let p = byte(out, at, a / 16777216, b".");
-    let q = byte(out, p, a / 65536, b".");
-    let r = byte(out, q, a / 256, b".");
-    byte(out, r, a, b"")
+#[derive(Clone, Copy)]
+pub struct Four(pub u64);
+
+impl fmt::Display for Four {
+    fn fmt<W: fmt::Write>(&self, f: &mut fmt::Formatter<W>) -> fmt::Result {
+        let a = self.0;
+        write!(
+            f,
+            "{}.{}.{}.{}",
+            a >> 24 & 255,
+            a >> 16 & 255,
+            a >> 8 & 255,
+            a & 255
+        )
+    }
 }
 
-// 16 bits and what stands after them.
-fn group(out: &mut [u8], at: usize, n: u64, after: &[u8]) -> usize {
-    let p = hex(out, at, n % 65536, 1);
-    text(out, p, after)
-}
+// 64 bits as four groups.
+#[derive(Clone, Copy)]
+struct Half(u64);
 
-fn half(out: &mut [u8], at: usize, n: u64, after: &[u8]) -> usize {
-    let p = group(out, at, n / 281474976710656, b":");
-    let q = group(out, p, n / 4294967296, b":");
-    let r = group(out, q, n / 65536, b":");
-    group(out, r, n, after)
+impl fmt::Display for Half {
+    fn fmt<W: fmt::Write>(&self, f: &mut fmt::Formatter<W>) -> fmt::Result {
+        let a = self.0;
+        write!(
+            f,
+            "{:x}:{:x}:{:x}:{:x}",
+            a >> 48 & 0xFFFF,
+            a >> 32 & 0xFFFF,
+            a >> 16 & 0xFFFF,
+            a & 0xFFFF
+        )
+    }
 }
 
 // An IPv6 address from its two halves, as eight groups; a scope that isn't 0 stands after it.
-pub fn six(out: &mut [u8], at: usize, hi: u64, lo: u64, scope: u32) -> usize {
-    let p = half(out, at, hi, b":");
-    let q = half(out, p, lo, b"");
-    if scope == 0 {
-        return q;
+#[derive(Clone, Copy)]
+pub struct Six {
+    pub hi: u64,
+    pub lo: u64,
+    pub scope: u32,
+}
+
+impl fmt::Display for Six {
+    fn fmt<W: fmt::Write>(&self, f: &mut fmt::Formatter<W>) -> fmt::Result {
+        write!(f, "{}:{}", Half(self.hi), Half(self.lo))?;
+        if self.scope != 0 {
+            write!(f, "%{}", self.scope)?;
+        }
+        Ok(())
     }
-    around(out, q, b"%", scope as u64, b"")
 }

@@ -1,6 +1,7 @@
 // Lines of at most 100 columns. A longer text continues indented by four; a line that is broken inside a word ends with a backslash.
 ghost use Rattle.std.specs.Prelude.{◌≤◌, ◌<◌, length};
 
+use std::fmt::Display;
 use std::io;
 
 const COLUMNS: usize = 100;
@@ -10,47 +11,40 @@ fn blank(s: &[u8], from: usize, most: usize) -> usize
     requires { (from ≤ most) × (most < length s.now) }
     ensures { (from ≤ result) × (result ≤ most) }
 {
-    let mut e = most;
-    while from < e {
-        if s[e] == 32 {
+    for e in (from + 1..=most).rev() {
+        if s[e] == b' ' {
             return e;
         }
-        e -= 1;
     }
-    e
-}
-
-fn write(rt: &impl Print, s: &[u8]) -> io::Result<()> {
-    rt.write_all(s)
+    from
 }
 
 // Writes a text in lines.
-pub fn show(rt: &impl Print, s: &[u8]) -> io::Result<()> {
+fn broken(rt: &impl Print, s: &[u8]) -> io::Result<()> {
     let mut at: usize = 0;
     let mut width: usize = COLUMNS;
+    // No `for`: how far a line goes is known only when its end is found.
     while width < s.len() - at {
         let most = at + width;
         let end = blank(s, at, most);
         if end == at {
             let stop = most - 1;
-            write(rt, &s[at..stop])?;
-            write(rt, b"\\\n    ")?;
+            rt.write_all(&s[at..stop])?;
+            rt.write_all(b"\\\n    ")?;
             at = stop;
         } else {
-            write(rt, &s[at..end])?;
-            write(rt, b"\n    ")?;
+            rt.write_all(&s[at..end])?;
+            rt.write_all(b"\n    ")?;
             at = end + 1;
         }
         width = 96;
     }
-    write(rt, &s[at..])?;
-    write(rt, b"\n")
+    rt.write_all(&s[at..])?;
+    rt.write_all(b"\n")
 }
 
-// Writes the first n bytes of a text in lines.
-pub fn show_first(rt: &impl Print, s: &[u8], n: usize) -> io::Result<()> {
-    if n <= s.len() {
-        show(rt, &s[0..n])?;
-    }
-    Ok(())
+// Writes an entry in lines.
+pub fn show<D: Display + Drop>(rt: &(impl Print + Alloc), entry: D) -> io::Result<()> {
+    let text = format!(in rt.alloc(); "{entry}")?;
+    broken(rt, text.as_bytes())
 }

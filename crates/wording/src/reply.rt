@@ -1,150 +1,138 @@
 // What the machine says: an answer in words.
-use super::words::{kind, rank, refusal};
-use bodies::EventRead;
+use super::words::{Refused, kind, rank};
+use bodies::Event;
 use machine::grant::Table;
 use machine::wish::Reason;
-use numbers::field::Span;
-use parts::address::{AddrRead, read_four, read_six};
-use reader::{Answer, AnswerRead, EchSpan, EndpointSpan, TargetSpan, answer_at};
-use records::queries::Kind;
-use telling::address::{four, six};
-use telling::piece::{around, millis, part, sealed_part, text};
+use parts::address::{read_four, read_six};
+use parts::reading::Reading;
+use reader::{Answer, EndpointSpan, TargetSpan, answer_at};
+use std::fmt;
+use telling::address::{Four, Six};
+use telling::piece::{Letters, Millis, Sealed, part};
 
-fn four_at(out: &mut [u8], at: usize, s: &[u8], place: usize) -> usize {
-    let r = read_four(s, place);
-    match r {
-        AddrRead::Refused(_, _) => at,
-        AddrRead::Address(a, _) => four(out, at, a.lo),
-    }
+// Where an attempt goes: an address, one of IPv6 in brackets, or a name.
+#[derive(Clone, Copy)]
+struct Target<'a> {
+    bytes: &'a [u8],
+    target: TargetSpan,
 }
 
-fn six_at(out: &mut [u8], at: usize, s: &[u8], place: usize, scope: u32) -> usize {
-    let r = read_six(s, place);
-    match r {
-        AddrRead::Refused(_, _) => at,
-        AddrRead::Address(a, _) => {
-            let p = text(out, at, b"[");
-            let q = six(out, p, a.hi, a.lo, scope);
-            text(out, q, b"]")
+impl fmt::Display for Target<'_> {
+    fn fmt<W: fmt::Write>(&self, f: &mut fmt::Formatter<W>) -> fmt::Result {
+        match self.target {
+            TargetSpan::V4(b) => match read_four(self.bytes, b.start) {
+                Ok((a, _)) => write!(f, "{}", Four(a.lo)),
+                Err(_) => Ok(()),
+            },
+            TargetSpan::V6(b, scope) => match read_six(self.bytes, b.start) {
+                Ok((a, _)) => {
+                    let six = Six {
+                        hi: a.hi,
+                        lo: a.lo,
+                        scope,
+                    };
+                    write!(f, "[{six}]")
+                }
+                Err(_) => Ok(()),
+            },
+            TargetSpan::Named(b) => write!(f, "{}", Letters(part(self.bytes, b))),
         }
     }
 }
 
-fn target(out: &mut [u8], at: usize, s: &[u8], t: TargetSpan) -> usize {
-    match t {
-        TargetSpan::V4(b) => four_at(out, at, s, b.start),
-        TargetSpan::V6(b, scope) => six_at(out, at, s, b.start, scope),
-        TargetSpan::Named(b) => part(out, at, s, b),
-    }
+#[derive(Clone, Copy)]
+struct Endpoint<'a> {
+    bytes: &'a [u8],
+    endpoint: EndpointSpan,
 }
 
-fn sent_ech(out: &mut [u8], at: usize, s: &[u8], e: EchSpan) -> usize {
-    match e {
-        EchSpan::Without => text(out, at, b", no ECH"),
-        EchSpan::Sealed(b) => {
-            let p = text(out, at, b", ");
-            sealed_part(out, p, s, b)
+impl fmt::Display for Endpoint<'_> {
+    fn fmt<W: fmt::Write>(&self, f: &mut fmt::Formatter<W>) -> fmt::Result {
+        let e = self.endpoint;
+        let target = Target {
+            bytes: self.bytes,
+            target: e.target,
+        };
+        write!(f, "{} to {target}:{}, ", rank(e.rank), e.port)?;
+        match e.ech {
+            None => f.write_str("no ECH"),
+            Some(b) => write!(f, "{}", Sealed(part(self.bytes, b))),
         }
     }
 }
 
-fn endpoint(out: &mut [u8], at: usize, s: &[u8], e: EndpointSpan) -> usize {
-    let r = e.rank;
-    let t = e.target;
-    let x = e.ech;
-    let p = rank(out, at, r);
-    let q = text(out, p, b" to ");
-    let u = target(out, q, s, t);
-    let v = around(out, u, b":", e.port as u64, b"");
-    sent_ech(out, v, s, x)
-}
-
-fn query(out: &mut [u8], at: usize, s: &[u8], id: u64, k: Kind, stale: bool, b: Span) -> usize {
-    let p = around(out, at, b"query ", id, b": ");
-    let q = kind(out, p, k);
-    let r = text(out, q, b" of ");
-    let t = part(out, r, s, b);
-    if stale {
-        return t;
-    }
-    text(out, t, b", a refresh")
-}
-
-fn retried(out: &mut [u8], at: usize, retry: bool) -> usize {
-    if retry {
-        return text(out, at, b", an ECH retry: ");
-    }
-    text(out, at, b": ")
-}
-
-fn attempt(out: &mut [u8], at: usize, s: &[u8], id: u64, retry: bool, e: EndpointSpan) -> usize {
-    let p = around(out, at, b"attempt ", id, b"");
-    let q = retried(out, p, retry);
-    endpoint(out, q, s, e)
-}
-
-fn timer(out: &mut [u8], at: usize, ns: u64) -> usize {
-    let p = around(out, at, b"timer of ", ns, b" ns (");
-    let q = millis(out, p, ns);
-    text(out, q, b" ms)")
-}
-
-pub fn failed(out: &mut [u8], at: usize, r: Reason) -> usize {
+pub fn failed(r: Reason) -> &'static str {
     match r {
-        Reason::Dns => text(out, at, b"failed: DNS, there was nothing to attempt"),
-        Reason::Connection => text(out, at, b"failed: connection, no attempt succeeded"),
+        Reason::Dns => "failed: DNS, there was nothing to attempt",
+        Reason::Connection => "failed: connection, no attempt succeeded",
     }
 }
 
-fn full(out: &mut [u8], at: usize, t: Table) -> usize {
+fn full(t: Table) -> &'static str {
     match t {
-        Table::Queries => text(out, at, b"full: no room for another query"),
-        Table::Attempts => text(out, at, b"full: no room for another attempt"),
+        Table::Queries => "full: no room for another query",
+        Table::Attempts => "full: no room for another attempt",
     }
 }
 
-fn taken(out: &mut [u8], at: usize, n: u64) -> usize {
-    if n == 0 {
-        return text(out, at, b"accepted");
-    }
-    let p = text(out, at, b"refused, ");
-    refusal(out, p, n)
+// An answer, and the bytes in which its names and ECH bytes stand.
+#[derive(Clone, Copy)]
+pub struct Reply<'a> {
+    pub bytes: &'a [u8],
+    pub answer: Answer,
 }
 
-// An answer, whose bytes stand in s.
-pub fn answer(out: &mut [u8], at: usize, s: &[u8], a: Answer) -> usize {
-    match a {
-        Answer::Waiting => text(out, at, b"waiting"),
-        Answer::Query(id, k, stale, b) => query(out, at, s, id, k, stale, b),
-        Answer::Timer(ns) => timer(out, at, ns),
-        Answer::Attempt(id, retry, e) => attempt(out, at, s, id, retry, e),
-        Answer::Cancel(id) => around(out, at, b"cancel attempt ", id, b""),
-        Answer::Succeeded => text(out, at, b"succeeded"),
-        Answer::Failed(r) => failed(out, at, r),
-        Answer::Full(t) => full(out, at, t),
-        Answer::Taken(n) => taken(out, at, n),
+impl fmt::Display for Reply<'_> {
+    fn fmt<W: fmt::Write>(&self, f: &mut fmt::Formatter<W>) -> fmt::Result {
+        let bytes = self.bytes;
+        match self.answer {
+            Answer::Waiting => f.write_str("waiting"),
+            Answer::Query(id, k, stale, name) => {
+                let refresh = if stale { "" } else { ", a refresh" };
+                let name = Letters(part(bytes, name));
+                write!(f, "query {id}: {} of {name}{refresh}", kind(k))
+            }
+            Answer::Timer(ns) => write!(f, "timer of {ns} ns ({} ms)", Millis(ns)),
+            Answer::Attempt(id, retry, endpoint) => {
+                let retry = if retry { ", an ECH retry" } else { "" };
+                write!(f, "attempt {id}{retry}: {}", Endpoint { bytes, endpoint })
+            }
+            Answer::Cancel(id) => write!(f, "cancel attempt {id}"),
+            Answer::Succeeded => f.write_str("succeeded"),
+            Answer::Failed(r) => f.write_str(failed(r)),
+            Answer::Full(t) => f.write_str(full(t)),
+            Answer::Taken(0) => f.write_str("accepted"),
+            Answer::Taken(n) => write!(f, "refused, {}", Refused(n)),
+        }
     }
 }
 
-// The answer at a place, in words.
-pub fn said_at(out: &mut [u8], at: usize, answers: &[u8], place: usize) -> usize {
-    let r = answer_at(answers, place);
-    match r {
-        AnswerRead::Refused(_) => at,
-        AnswerRead::Answer(a, _) => answer(out, at, answers, a),
+// The answer at a place.
+#[derive(Clone, Copy)]
+pub struct ReplyAt<'a> {
+    pub answers: &'a [u8],
+    pub place: usize,
+}
+
+impl fmt::Display for ReplyAt<'_> {
+    fn fmt<W: fmt::Write>(&self, f: &mut fmt::Formatter<W>) -> fmt::Result {
+        let bytes = self.answers;
+        match answer_at(bytes, self.place) {
+            Ok((answer, _)) => write!(f, "{}", Reply { bytes, answer }),
+            Err(_) => Ok(()),
+        }
     }
 }
 
-// Where the fault of a body is that isn't sound.
-pub fn fault_place(out: &mut [u8], at: usize, read: EventRead) -> usize {
-    match read {
-        EventRead::Event(_, _) => at,
-        EventRead::Refused(_, place) => around(
-            out,
-            at,
-            b"; at byte ",
-            place as u64,
-            b" of the body",
-        ),
+// Where the fault of a body is that isn't sound; nothing of a sound one.
+#[derive(Clone, Copy)]
+pub struct FaultPlace(pub Reading<Event>);
+
+impl fmt::Display for FaultPlace {
+    fn fmt<W: fmt::Write>(&self, f: &mut fmt::Formatter<W>) -> fmt::Result {
+        match self.0 {
+            Ok(_) => Ok(()),
+            Err(e) => write!(f, "; at byte {} of the body", e.place),
+        }
     }
 }

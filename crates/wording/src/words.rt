@@ -2,123 +2,112 @@
 use records::endpoints::Rank;
 use records::queries::Kind;
 use records::rules::{Mode, Port, Preference, Version, Versions};
-use telling::piece::{around, number, text};
+use std::fmt;
 
-pub fn kind(out: &mut [u8], at: usize, k: Kind) -> usize {
+pub fn kind(k: Kind) -> &'static str {
     match k {
-        Kind::Https => text(out, at, b"HTTPS"),
-        Kind::Aaaa => text(out, at, b"AAAA"),
-        Kind::A => text(out, at, b"A"),
+        Kind::Https => "HTTPS",
+        Kind::Aaaa => "AAAA",
+        Kind::A => "A",
     }
 }
 
-pub fn rank(out: &mut [u8], at: usize, r: Rank) -> usize {
+pub fn rank(r: Rank) -> &'static str {
     match r {
-        Rank::H3 => text(out, at, b"H3"),
-        Rank::H2OrH1 => text(out, at, b"H2 or H1"),
-        Rank::H2 => text(out, at, b"H2"),
-        Rank::H1 => text(out, at, b"H1"),
+        Rank::H3 => "H3",
+        Rank::H2OrH1 => "H2 or H1",
+        Rank::H2 => "H2",
+        Rank::H1 => "H1",
     }
 }
 
-pub fn version(out: &mut [u8], at: usize, v: Version) -> usize {
+pub fn version(v: Version) -> &'static str {
     match v {
-        Version::H3 => text(out, at, b"H3"),
-        Version::H2 => text(out, at, b"H2"),
-        Version::H1 => text(out, at, b"H1"),
+        Version::H3 => "H3",
+        Version::H2 => "H2",
+        Version::H1 => "H1",
     }
 }
 
-fn flag(out: &mut [u8], at: usize, on: bool, s: &[u8]) -> usize {
-    if on {
-        return text(out, at, s);
+pub fn preference(p: Preference) -> &'static str {
+    match p {
+        Preference::DualStackPreferV6 => "both families, IPv6 preferred",
+        Preference::DualStackPreferV4 => "both families, IPv4 preferred",
+        Preference::Ipv6Only => "IPv6 only",
+        Preference::Ipv4Only => "IPv4 only",
     }
-    at
+}
+
+pub fn mode(m: Mode) -> &'static str {
+    match m {
+        Mode::Ip => "by address",
+        Mode::Name => "by name",
+        Mode::NameWithHttpsRr => "by name, with HTTPS records",
+    }
 }
 
 // A set of versions.
-pub fn versions(out: &mut [u8], at: usize, v: Versions) -> usize {
-    let p = text(out, at, b"versions");
-    let q = flag(out, p, v.h3, b" H3");
-    let r = flag(out, q, v.h2, b" H2");
-    let end = flag(out, r, v.h1, b" H1");
-    if end == p {
-        return text(out, p, b" none");
-    }
-    end
-}
+#[derive(Clone, Copy)]
+pub struct VersionSet(pub Versions);
 
-pub fn port(out: &mut [u8], at: usize, p: Port) -> usize {
-    match p {
-        Port::Origin => text(out, at, b"the origin's port"),
-        Port::Own(n) => around(out, at, b"port ", n as u64, b""),
-    }
-}
-
-pub fn preference(out: &mut [u8], at: usize, p: Preference) -> usize {
-    match p {
-        Preference::DualStackPreferV6 => text(out, at, b"both families, IPv6 preferred"),
-        Preference::DualStackPreferV4 => text(out, at, b"both families, IPv4 preferred"),
-        Preference::Ipv6Only => text(out, at, b"IPv6 only"),
-        Preference::Ipv4Only => text(out, at, b"IPv4 only"),
+impl fmt::Display for VersionSet {
+    fn fmt<W: fmt::Write>(&self, f: &mut fmt::Formatter<W>) -> fmt::Result {
+        let v = self.0;
+        f.write_str("versions")?;
+        if v.h3 {
+            f.write_str(" H3")?;
+        }
+        if v.h2 {
+            f.write_str(" H2")?;
+        }
+        if v.h1 {
+            f.write_str(" H1")?;
+        }
+        if !(v.h3 || v.h2 || v.h1) {
+            f.write_str(" none")?;
+        }
+        Ok(())
     }
 }
 
-pub fn mode(out: &mut [u8], at: usize, m: Mode) -> usize {
-    match m {
-        Mode::Ip => text(out, at, b"by address"),
-        Mode::Name => text(out, at, b"by name"),
-        Mode::NameWithHttpsRr => text(out, at, b"by name, with HTTPS records"),
-    }
-}
+// The port of an alternative service or of a service record.
+#[derive(Clone, Copy)]
+pub struct PortOf(pub Port);
 
-// What refusals 1 to 6 say of bytes.
-fn fault(out: &mut [u8], at: usize, n: u64) -> usize {
-    match n {
-        1 => text(out, at, b"Cut: the bytes end inside a field"),
-        2 => text(
-            out,
-            at,
-            b"BadNumber: a number isn't in its shortest form, or above 64 bits",
-        ),
-        3 => text(
-            out,
-            at,
-            b"OutOfRange: a kind, flag, number or length is outside its range",
-        ),
-        4 => text(out, at, b"BadName: a name breaks the name rule"),
-        5 => text(out, at, b"TooMany: a count or length is over its size"),
-        _ => text(out, at, b"Trailing: bytes follow the last field"),
-    }
-}
-
-// What the others say of an input, and 13 of the answers.
-fn judged(out: &mut [u8], at: usize, n: u64) -> usize {
-    match n {
-        7 => text(
-            out,
-            at,
-            b"UnknownId: nothing that it could answer has this id",
-        ),
-        8 => text(out, at, b"AlreadyAnswered: the query has its answer"),
-        9 => text(out, at, b"WrongType: the query asked for another type"),
-        10 => text(out, at, b"StaleRefresh: a refresh is answered as stale"),
-        11 => text(out, at, b"EchNotSent: ECH is off, or the attempt sent none"),
-        12 => text(
-            out,
-            at,
-            b"AlreadyEnded: the attempt succeeded or failed before",
-        ),
-        _ => text(out, at, b"NoRoom: the answer doesn't fit the buffer"),
+impl fmt::Display for PortOf {
+    fn fmt<W: fmt::Write>(&self, f: &mut fmt::Formatter<W>) -> fmt::Result {
+        match self.0 {
+            Port::Origin => f.write_str("the origin's port"),
+            Port::Own(n) => write!(f, "port {n}"),
+        }
     }
 }
 
 // A refusal's number, name and meaning.
-pub fn refusal(out: &mut [u8], at: usize, n: u64) -> usize {
-    let p = number(out, at, n);
-    let q = text(out, p, b" ");
-    if n < 7 {
-        return fault(out, q, n);
+#[derive(Clone, Copy)]
+pub struct Refused(pub u64);
+
+impl fmt::Display for Refused {
+    fn fmt<W: fmt::Write>(&self, f: &mut fmt::Formatter<W>) -> fmt::Result {
+        write!(f, "{} {}", self.0, meaning(self.0))
     }
-    judged(out, q, n)
+}
+
+// What refusals 1 to 6 say of bytes, 7 to 12 of an input, and 13 of the answers.
+fn meaning(n: u64) -> &'static str {
+    match n {
+        1 => "Cut: the bytes end inside a field",
+        2 => "BadNumber: a number isn't in its shortest form, or above 64 bits",
+        3 => "OutOfRange: a kind, flag, number or length is outside its range",
+        4 => "BadName: a name breaks the name rule",
+        5 => "TooMany: a count or length is over its size",
+        0 | 6 => "Trailing: bytes follow the last field",
+        7 => "UnknownId: nothing that it could answer has this id",
+        8 => "AlreadyAnswered: the query has its answer",
+        9 => "WrongType: the query asked for another type",
+        10 => "StaleRefresh: a refresh is answered as stale",
+        11 => "EchNotSent: ECH is off, or the attempt sent none",
+        12 => "AlreadyEnded: the attempt succeeded or failed before",
+        _ => "NoRoom: the answer doesn't fit the buffer",
+    }
 }

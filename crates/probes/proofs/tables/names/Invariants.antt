@@ -1,5 +1,4 @@
 -- `probes::tables::names` meets its contract.
-use Rattle.std.proofs.Common.{◌-◌}
 use Rattle.records.specs.Names.{blank_name}
 use Rattle.probes.specs.Flat.{name_of}
 use Rattle.probes.proofs.Tabled.{Made}
@@ -7,6 +6,3 @@ use Rattle.probes.proofs.tables.names.Given as goal
 
 abbrev pub invariant-loop-i : goal.invariant-loop-i
 invariant-loop-i l = Made (name_of l.list l.base l.bytes) blank_name 14 l.all l.i
-
-abbrev pub decreases-loop-i : goal.decreases-loop-i
-decreases-loop-i l = 14 - l.i

@@ -1,9 +1,0 @@
--- `probes::state::queries` is safe and ends.
-use Rattle.std.proofs.Common.{◌-◌}
-use Rattle.probes.proofs.state.queries.Given as goal
-
-abbrev pub invariant-loop-i : goal.invariant-loop-i
-invariant-loop-i l = Unit {0}
-
-abbrev pub decreases-loop-i : goal.decreases-loop-i
-decreases-loop-i l = 16 - l.i

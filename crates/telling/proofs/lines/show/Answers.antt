@@ -1,9 +1,0 @@
--- `telling::lines::show` goes on with a width that has room, wherever a line ended.
-use Rattle.std.proofs.Common.{arith}
-use Rattle.telling.proofs.lines.show.Goals as goal
-
-pub loop-width-preserved-in_ok-write-2 : goal.loop-width-preserved-in_ok-write-2
-loop-width-preserved-in_ok-write-2 g c = (omega arith, omega arith, omega arith)
-
-pub loop-width-preserved : goal.loop-width-preserved
-loop-width-preserved g c = (omega arith, omega arith, omega arith)
