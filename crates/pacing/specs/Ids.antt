@@ -1,4 +1,4 @@
--- Ids, rules 1.1 and 1.2 (document 01, part 1): the first is 0, each is one more than the one before, and 2^64 - 1 is followed by 0.
+-- Ids, rules 1.1 and 1.2: the first is 0, each is one more than the one before, and 2^64 - 1 is followed by 0.
 use Rattle.std.specs.Prelude.{◌+◌, ◌%◌, ◌^◌}
 use Rattle.pacing.specs.declared.id.IdGenerator.{IdGenerator}
 use Rattle.pacing.specs.declared.id.Issued.{Issued}

@@ -1,4 +1,4 @@
--- Pacing: rules 2.1 to 2.3 (document 01, part 2).
+-- Pacing: rules 2.1 to 2.3.
 use Rattle.std.specs.Prelude.{ℕ, ◌-◌, ◌*◌, ◌^◌, min, max}
 
 -- multiplier to the power; above 2^32-1 it becomes 2^32-1; multiplier 0 counts as 1

@@ -1,4 +1,4 @@
-// Ids of queries and attempts (src/id.rs of the Rust).
+// Ids of queries and attempts: rules 1.1 and 1.2.
 ghost use Rattle.std.specs.Prelude.{◌≡◌};
 ghost use Rattle.pacing.specs.Ids.{first_id, next_id};
 

@@ -58,11 +58,11 @@ head_first names echs a b =
     (regroup (nat_eq a.port b.port) (nat_eq (rank_number a.rank) (rank_number b.rank)) (same_numbers a.target b.target) (same_hosts names a.target b.target) (same_sealed a.ech b.ech) (same_echs echs a.ech b.ech))
 
 -- equal places, equal bytes: the tables aren't asked
-pub places-hosts : (names : Names) (p : ℕ) → true ≡ same_hosts names (Named p) (Named p)
-places-hosts names p = sym (same_refl (host_at names p))
+pub place_hosts : (names : Names) (p q : ℕ) → p ≡ q → same_bytes (host_at names p) (host_at names q) ≡ true
+place_hosts names p q e = ap (λ k. same_bytes (host_at names p) (host_at names k)) (sym e) ∙ same_refl (host_at names p)
 
-pub places-echs : (echs : Echs) (p : ℕ) → true ≡ same_echs echs (At p) (At p)
-places-echs echs p = sym (same_refl (ech_bytes_at echs p))
+pub place_seals : (echs : Echs) (p q : ℕ) → p ≡ q → same_bytes (ech_bytes_at echs p) (ech_bytes_at echs q) ≡ true
+place_seals echs p q e = ap (λ k. same_bytes (ech_bytes_at echs p) (ech_bytes_at echs k)) (sym e) ∙ same_refl (ech_bytes_at echs p)
 
 -- a conjunction that passes, part by part
 first : (a b : Bool) → a && b ≡ true → a ≡ true
@@ -128,10 +128,3 @@ same-to-shown names echs a b e = equal-shown (shown names echs a) (shown names e
 pub shown-to-same : (names : Names) (echs : Echs) (a b : Endpoint) → shown names echs a ≡ shown names echs b → same_endpoint names echs a b ≡ true
 unfolding same_endpoint
 shown-to-same names echs a b e = ap (λ s. same_shown (shown names echs a) s) (sym e) ∙ same-shown-refl (shown names echs a)
-
--- the same, by the test whether the places are equal
-pub place_hosts : (names : Names) (p q : ℕ) → p ≡ q → same_bytes (host_at names p) (host_at names q) ≡ true
-place_hosts names p q e = ap (λ k. same_bytes (host_at names p) (host_at names k)) (sym e) ∙ same_refl (host_at names p)
-
-pub place_seals : (echs : Echs) (p q : ℕ) → p ≡ q → same_bytes (ech_bytes_at echs p) (ech_bytes_at echs q) ≡ true
-place_seals echs p q e = ap (λ k. same_bytes (ech_bytes_at echs p) (ech_bytes_at echs k)) (sym e) ∙ same_refl (ech_bytes_at echs p)

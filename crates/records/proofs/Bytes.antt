@@ -25,19 +25,6 @@ other_length (a ∷ x) (b ∷ y) h = first (nat_eq a b) (other_length x y (λ e.
     first true e = e
     first false e = refl
 
-module _ (x y : List ℕ) (i : ℕ) (t : Bool) (p : same_bytes (drop i x) (drop i y) ≡ t) where
-  pub same_more : i < length x → i < length y → get_or x i 0 ≡ get_or y i 0 → same_bytes (drop (i + 1) x) (drop (i + 1) y) ≡ t
-  unfolding same_bytes
-  same_more h k e = rw (add-one) (rw (drop-cons x i 0 h, drop-cons y i 0 k, eq-eqb _ _ e) at p)
-
-  pub same_not : i < length x → i < length y → nat_eq (get_or x i 0) (get_or y i 0) ≡ false → false ≡ t
-  unfolding same_bytes
-  same_not h k e = rw (drop-cons x i 0 h, drop-cons y i 0 k, e) at p
-
-  pub same_end : length x ≤ i → length y ≤ i → true ≡ t
-  unfolding same_bytes
-  same_end h k = rw (drop_of_length-le x {i = i} h, drop_of_length-le y {i = i} k) at p
-
 -- the same exactly if equal
 pub same_refl : (x : List ℕ) → same_bytes x x ≡ true
 unfolding same_bytes

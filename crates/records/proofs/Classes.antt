@@ -68,6 +68,11 @@ unfolding first_from
 first-same f g i zero e = refl
 first-same f g i (suc n) e = rw (e i, first-same f g (i + 1) n e)
 
+-- what is found is the class
+pub found_here : (n : ℕ) (same : ℕ → ℕ → Bool) (p q : ℕ) → same n p ≡ false → q < n → same q p ≡ true → first_from (λ k. same k p) q (n - q) ≡ first_from (λ k. same k p) 0 n → q ≡ class_of n same p
+unfolding class_of
+found_here n same p q e h t f = sym (first_here (λ k. same k p) q n h t) ∙ (f ∙ ap (λ b. cond b n (first_from (λ k. same k p) 0 n)) (sym e))
+
 -- a place outside the table is the same as any other there
 pub record Table (n : ℕ) (same : ℕ → ℕ → Bool) : Type 0 where
   pub alike : Equivalence same

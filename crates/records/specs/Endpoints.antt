@@ -1,4 +1,4 @@
--- Endpoints with their bytes, and when two are the same: target, port, rank and ECH bytes. Rule 4.2 (document 01, part 4); targets: rule B.10.
+-- Endpoints with their bytes, and when two are the same: target, port, rank and ECH bytes. Rule 4.2; targets: rule B.10.
 use Rattle.std.specs.Prelude.{ℕ, Bool, true, false, ◌&&◌, List, [], ◌∷◌, nat_eq}
 use Rattle.std.proofs.Math.Option.{Option, none, some}
 use Rattle.records.specs.Numbers.{rank_number}

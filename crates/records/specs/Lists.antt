@@ -1,4 +1,4 @@
--- Lists made of lists, tests over a list, and a list in a fixed room. Rules 4.14 and 4.15 (document 01, part 4); zeros: rule S.8.
+-- Lists made of lists, tests over a list, and a list in a fixed room. Rules 4.14 and 4.15; zeros: rule S.8.
 use Rattle.std.specs.Prelude.{ℕ, ◌-◌, Bool, true, false, cond, List, [], ◌∷◌, ◌++◌, nat_lt, length, get_or, replicate}
 use Rattle.std.proofs.Math.Option.{Option, none, some}
 

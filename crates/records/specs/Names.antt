@@ -1,5 +1,5 @@
 -- Names and ECH bytes: where they lie, when they are the same (rule S.6), their zeros (rule S.8), and the host that a by-name endpoint connects to:
--- rule 4.12 (document 01, part 4).
+-- rule 4.12.
 use Rattle.std.specs.Prelude.{ℕ, Bool, true, false, cond, ◌&&◌, List, [], ◌∷◌, nat_eq, length, take, set, replicate}
 use Rattle.numbers.specs.Names.{undotted}
 use Rattle.records.specs.Lists.{cell}

@@ -1,4 +1,4 @@
--- Document 01's numbers for what an answer shows: rules B.5, B.10 and B.11.
+-- The numbers for what an answer shows: rules B.5, B.10 and B.11.
 use Rattle.std.specs.Prelude.{ℕ}
 use Rattle.records.specs.declared.endpoints.Rank.{Rank}
 use Rattle.records.specs.declared.endpoints.Rank.TheVariants as rank

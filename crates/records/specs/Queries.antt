@@ -1,4 +1,4 @@
--- Query records and the addresses of their answers. Rules 4.11 and 4.13 (document 01, part 4); zeros: rule S.8.
+-- Query records and the addresses of their answers. Rules 4.11 and 4.13; zeros: rule S.8.
 use Rattle.std.specs.Prelude.{ℕ, Bool, true, false, cond, [], nat_lt, get_or, replicate}
 use Rattle.records.specs.Lists.{cell}
 use Rattle.records.specs.declared.queries.Addr.{Addr}

@@ -1,4 +1,4 @@
--- References to endpoints: where a target is found, and what is read there. Rule 4.13 (document 01, part 4). A place outside its table reads as
+-- References to endpoints: where a target is found, and what is read there. Rule 4.13. A place outside its table reads as
 -- the zero of its kind (rule S.8).
 use Rattle.std.specs.Prelude.{ℕ, ◌-◌, ◌%◌, cond, nat_eq}
 use Rattle.records.specs.Lists.{cell}

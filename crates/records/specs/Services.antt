@@ -1,4 +1,4 @@
--- The services of the HTTPS answer that is held, and which of them are used. Rules 4.6 and 4.13 (document 01, part 4); zeros: rule S.8.
+-- The services of the HTTPS answer that is held, and which of them are used. Rules 4.6 and 4.13; zeros: rule S.8.
 use Rattle.std.specs.Prelude.{ℕ, Bool, true, false, cond, ◌&&◌, List, [], nat_lt, get_or, take, replicate}
 use Rattle.records.specs.Lists.{some?, cell}
 use Rattle.records.specs.declared.names.EchPlace.{EchPlace}

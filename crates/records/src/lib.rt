@@ -1,6 +1,7 @@
 #![tactic(auto)]
 // What the machine holds and a listing is made from: configuration, names, ECH bytes, query records with their answers, services, endpoints.
 // Records hold numbers and places; names and ECH bytes lie in two tables beside them. Unused room is zero, and `no_…` gives each kind's zero.
+// Rooms with a count beside them stand for vectors, since there is no heap (rule S.1).
 
 pub mod endpoints;
 pub mod names;

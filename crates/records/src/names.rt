@@ -32,7 +32,8 @@ pub struct Echs {
     pub list: [Ech; 40],
 }
 
-// The place of an ECH configuration, or none.
+// The place of an ECH configuration, or none. An enum of its own, and no Option: its cases stand in what is promised of every endpoint, and
+// DECISIONS 14 names it.
 #[derive(Clone, Copy)]
 pub enum EchPlace {
     Without,
@@ -128,10 +129,14 @@ pub fn same_name(a: Name, b: Name) -> bool
 fn undot(name: &[u8]) -> &[u8]
     ensures { result.now ≡ undotted name.now }
 {
-    match name {
-        [host @ .., b'.'] => host,
-        _ => name,
+    if name.is_empty() {
+        return name;
     }
+    let last = name.len() - 1;
+    if name[last] == b'.' {
+        return &name[..last];
+    }
+    name
 }
 
 // The host of a by-name endpoint: its own name, or the origin's where it has none, each without one trailing dot.
@@ -183,9 +188,11 @@ impl Places for Names {
 impl Places for Echs {
     ghost alike = { λ t p q. same_bytes (ech_bytes (ech_at t p)) (ech_bytes (ech_at t q)) };
 
-    #[tactic(auto, using(crate::proofs::Bytes::same_alike, crate::proofs::Bytes::same_pointwise))]
+    #[tactic(auto, using(crate::proofs::Bytes::same_alike))]
     fn same(&self, p: u8, q: u8) -> bool {
-        p == q || self.bytes_at(p) == self.bytes_at(q)
+        let one = self.bytes_at(p);
+        let other = self.bytes_at(q);
+        p == q || same_bytes(one, other)
     }
 }
 

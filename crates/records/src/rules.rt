@@ -43,14 +43,14 @@ pub enum Mode {
     NameWithHttpsRr,
 }
 
-// A port of its own, or else the origin's.
+// A port of its own, or else the origin's. Not an Option, which would leave unsaid whose port stands for a missing one (DECISIONS 14, 42).
 #[derive(Clone, Copy)]
 pub enum Port {
     Origin,
     Own(u16),
 }
 
-// A host of its own, or else the origin's.
+// A host of its own, or else the origin's: no Option, as for the port.
 #[derive(Clone, Copy)]
 pub enum AltHost {
     Origin,

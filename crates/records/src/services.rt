@@ -78,7 +78,7 @@ pub fn has_ech(e: EchPlace) -> bool
 }
 
 // Whether some service that is held has ECH.
-#[tactic(auto, using(crate::proofs::Bytes::cut_take, crate::proofs::Seals::ech_step, crate::proofs::Seals::ech_end))]
+#[tactic(auto, using(crate::proofs::Bytes::cut_take, crate::proofs::Seals::ech_step, crate::proofs::Seals::ech_over))]
 fn some_ech(s: Services) -> bool
     ensures { result ≡ some? (λ x. has_ech x.ech) (offered s) }
 {

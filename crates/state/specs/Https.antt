@@ -1,4 +1,4 @@
--- The HTTPS name (document 01, part 5; RFC 9460, section 2.3).
+-- The HTTPS name: rule 5.3 (RFC 9460, section 2.3).
 use Rattle.std.specs.Prelude.{ℕ, zero, suc, ◌+◌, ◌/◌, ◌%◌, cond, List, [], ◌∷◌, ◌++◌, nat_lt, length, take}
 use Rattle.records.specs.Lists.{padded}
 use Rattle.records.specs.declared.names.Name.{Name}

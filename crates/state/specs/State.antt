@@ -1,4 +1,4 @@
--- Attempts and retries (document 01, "Sizes"), what of the machine is in use, and the machine that is made.
+-- Attempts and retries (rules S.1 and S.9), what of the machine is in use, and the machine that is made.
 use Rattle.std.specs.Prelude.{ℕ, Bool, true, false, not, cond, ◌&&◌, List, nat_eq, take, replicate}
 use Rattle.pacing.specs.Ids.{first_id}
 use Rattle.records.specs.Names.{no_echs, name_bytes_at, with_name}
