@@ -1,4 +1,4 @@
--- Input (document 01, part 7): the refusals 7 to 12, in their order, and what an accepted input changes. After 7 a first answer is tested
+-- Input (rules R.2 and 7.1 to 7.5): the refusals 7 to 12, in their order, and what an accepted input changes. After 7 a first answer is tested
 -- for 8, then 9, a refresh for 9, then 10, and a result for 12, then 11; a cancelled attempt takes any result, and nothing changes.
 use Rattle.std.specs.Prelude.{ℕ, ◌+◌, ◌<◌, Bool, true, false, not, cond, ◌&&◌, List, [], ◌∷◌, nat_eq, nat_lt, get_or, Option, Some, None, Result, Ok, Err}
 use Rattle.numbers.specs.declared.refusal.Refusal.{Refusal}

@@ -1,4 +1,4 @@
--- What a verdict says (document 01, "Refusal numbers" and part 7), without the order in which the tests are made.
+-- What a verdict says (rule R.2), without the order in which the tests are made.
 use Rattle.std.specs.Prelude.{ℕ, ◌<◌, min, ◌≡◌, Bool, true, false, not, cond, ◌&&◌, nat_lt, length, Ok, Err}
 use Rattle.numbers.specs.declared.refusal.Refusal.{Refusal}
 use Rattle.numbers.specs.declared.refusal.Refusal.TheVariants.{Cut, BadNumber, OutOfRange, BadName, TooMany, Trailing, UnknownId, AlreadyAnswered, WrongType, StaleRefresh, EchNotSent, AlreadyEnded, NoRoom}

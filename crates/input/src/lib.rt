@@ -1,10 +1,11 @@
 #![tactic(auto)]
 // An input whose body is sound: which refusal of 7 to 12 it gets, or what it changes.
-ghost use Rattle.std.specs.Prelude.{◌≡◌, ◌<◌, IfSome};
-ghost use Rattle.input.specs.Verdicts.{sent};
+ghost use Rattle.std.specs.Prelude.{◌≡◌, ◌<◌, ◌&&◌, IfSome};
+ghost use Rattle.records.specs.Services.{has_ech};
 ghost use Rattle.input.specs.Input.{IsWithin, in_flight, asked_of, tried_of, with_answer, is_failed, stored, first_answer, fresh_answer, answer_verdict, retry_verdict, outcome_verdict, end_verdict, result_verdict, verdict_of};
 
 use numbers::refusal::Refusal;
+use records::names::EchPlace;
 use records::queries::{Answer, Kind, Queries, Query, Refresh, is_answered, kind_number};
 use records::services::has_ech;
 use state::attempts::{Attempt, Attempts, State, with_state};
@@ -22,7 +23,7 @@ pub enum Input {
     EchRetry(u64),
 }
 
-// What an accepted input changes. A refusal carries no change (rule 5.2).
+// What an accepted input changes. A refusal carries no change (rule R.3).
 pub type Verdict = Result<InputChange, Refusal>;
 
 // Whose id an answer has.
@@ -121,7 +122,7 @@ fn stored(p: usize, q: Query, answer: Answer, round: Round) -> InputChange
     }
 }
 
-// "a first answer tests 8, 9"
+// "a first answer tests 8, 9" (rule R.2)
 #[tactic(auto, unfolding(crate::specs::Input::first_answer))]
 fn first_answer(q: Query, p: usize, kind: Kind, stale: bool, answer: Answer) -> Verdict
     ensures { result ≡ first_answer q p kind stale answer }
@@ -173,11 +174,14 @@ fn answer_verdict(queries: &Queries, kind: Kind, id: u64, stale: bool, answer: A
     }
 }
 
-// Whether the attempt carried ECH bytes.
-fn was_sent(on: bool, a: Attempt) -> bool
-    ensures { result ≡ sent on a }
+// Whether ECH bytes were sent.
+fn was_sent(on: bool, ech: EchPlace) -> bool
+    ensures { result ≡ on && has_ech ech }
 {
-    on && has_ech(a.endpoint.ech)
+    if !on {
+        return false;
+    }
+    has_ech(ech)
 }
 
 // An ECH retry on an attempt in progress. "on an attempt that is itself one" it "only marks it failed".
@@ -185,7 +189,7 @@ fn was_sent(on: bool, a: Attempt) -> bool
 fn retry_verdict(on: bool, count: usize, p: usize, a: Attempt) -> Verdict
     ensures { result ≡ retry_verdict on count p a }
 {
-    if !was_sent(on, a) {
+    if !was_sent(on, a.endpoint.ech) {
         return Err(Refusal::EchNotSent);
     }
     let failed = with_state(a, State::Failed);

@@ -1,4 +1,4 @@
--- Output (document 01, part 6): what the rules call for, in the order of `process_output_inner`, and what is given.
+-- Output (rules 6.1 to 6.9): what the rules call for, in the order of `process_output_inner`, and what is given.
 use Rattle.std.specs.Prelude.{Option, Some, None, ℕ, Bool, true, false, cond, ◌||◌, nat_lt, nat_le, get_or}
 use Rattle.pacing.specs.Ids.{next_id}
 use Rattle.pacing.specs.declared.id.IdGenerator.{IdGenerator}

@@ -13,7 +13,7 @@ use records::queries::{Answers, Kind, Queries};
 use records::rules::{Alts, Mode, Rules, Timing};
 use records::services::Services;
 use starting::pace::{attempt_left, may_start, resolution_left};
-use starting::surveys::{Asks, Hinted, Tries, either};
+use starting::surveys::{Asks, Hinted, Tries};
 use state::attempts::{Attempts, Retries};
 use upcoming::alike::Alike;
 use upcoming::next::{Next, next_endpoint, next_retry};
@@ -45,8 +45,7 @@ pub enum Wish {
 fn end_wish(tries: Tries) -> Wish
     ensures { result ≡ end_wish tries.first }
 {
-    let first = tries.first;
-    match first {
+    match tries.first {
         Some(p) => Wish::Cancel(p),
         None => Wish::Succeeded,
     }
@@ -68,13 +67,8 @@ fn reason_of(count: usize) -> Reason
 fn last_wish(tries: Tries, asks: Asks, count: usize) -> Wish
     ensures { result ≡ last_wish tries asks count }
 {
-    if asks.pending {
-        return Wish::Waiting;
-    }
-    if asks.flying {
-        return Wish::Waiting;
-    }
-    if 0 < tries.active {
+    let waits = asks.pending || asks.flying || 0 < tries.active;
+    if waits {
         return Wish::Waiting;
     }
     Wish::Failed(reason_of(count))
@@ -100,8 +94,7 @@ fn timer_wish(timing: Timing, tries: Tries, asks: Asks, count: usize, now: u64) 
 fn rest_wish(timing: Timing, tries: Tries, asks: Asks, count: usize, now: u64) -> Wish
     ensures { result ≡ rest_wish timing tries asks count now }
 {
-    let due = asks.due;
-    match due {
+    match asks.due {
         Some(p) => Wish::Refresh(p),
         None => timer_wish(timing, tries, asks, count, now),
     }
@@ -145,10 +138,7 @@ fn is_open_gate(
 fn has_others(services: usize, alts: usize) -> bool
     ensures { result ≡ has_others services alts }
 {
-    if 0 < services {
-        return true;
-    }
-    0 < alts
+    0 < services || 0 < alts
 }
 
 // What to look for, with so many retries, services and alternative services.
@@ -183,7 +173,7 @@ pub fn look_of(
 pub fn looks(l: Look) -> bool
     ensures { result ≡ looks l }
 {
-    either(l.retry, either(l.next, l.query))
+    l.retry || l.next || l.query
 }
 
 fn found_query(w: Wanted) -> Found
@@ -264,12 +254,10 @@ pub fn first_found(
 ) -> Found
     ensures { result ≡ retry_found retry (attempt_found next (other_found on (wanted_by asks.asked rules alts queries services (same_class same)))) }
 {
-    match retry {
-        None => match next {
-            None => query_found(on, rules, alts, queries, services, asks, same),
-            Some(e) => Found::Attempt(e),
-        },
-        Some(e) => Found::Retry(e),
+    match (retry, next) {
+        (Some(e), _) => Found::Retry(e),
+        (None, Some(e)) => Found::Attempt(e),
+        (None, None) => query_found(on, rules, alts, queries, services, asks, same),
     }
 }
 
@@ -289,12 +277,19 @@ pub fn found_of(
 ) -> Found
     ensures { result ≡ found_by (same_class alike.names) (alike_endpoints alike.hosts alike.echs) look asks.asked rules alts queries answers services attempts retries }
 {
-    let same = alike.names;
     let retry = retry_next(look.retry, attempts, retries, alike);
     let on = looks_on(look.next, retry);
     let next = endpoint_next(on, rules, alts, queries, answers, services, attempts, alike);
     first_found(
-        retry, next, look.query, rules, alts, queries, services, asks, same,
+        retry,
+        next,
+        look.query,
+        rules,
+        alts,
+        queries,
+        services,
+        asks,
+        alike.names,
     )
 }
 
@@ -303,12 +298,9 @@ pub fn found_of(
 fn next_origin(rules: Rules, asks: Asks) -> Wanted
     ensures { result ≡ next_origin rules asks }
 {
-    let m = rules.mode;
-    let k = asks.asked;
-    match m {
-        Mode::Ip => origin_wanted(rules, k),
+    match rules.mode {
+        Mode::Ip | Mode::NameWithHttpsRr => origin_wanted(rules, asks.asked),
         Mode::Name => None,
-        Mode::NameWithHttpsRr => origin_wanted(rules, k),
     }
 }
 
@@ -323,8 +315,7 @@ fn origin_wish(
 ) -> Wish
     ensures { result ≡ query_wish (next_origin rules asks) (rest_wish timing tries asks count now) }
 {
-    let w = next_origin(rules, asks);
-    match w {
+    match next_origin(rules, asks) {
         None => rest_wish(timing, tries, asks, count, now),
         Some((k, p)) => Wish::Query(k, p),
     }

@@ -1,4 +1,4 @@
--- What is attempted next (document 01, parts 4 to 6): the first retry, or the first of the listing, that wasn't attempted.
+-- What is attempted next (rules 6.3 and 6.4): the first retry, or the first of the listing, that wasn't attempted.
 -- `same` says of two places among the names whether they hold the same name, `alike` of two endpoints whether they are one.
 use Rattle.std.specs.Prelude.{Option as Maybe, Some, None, ℕ, ◌+◌, Bool, not, cond, List, [], ◌∷◌, nat_lt, get_or}
 use Rattle.std.proofs.Math.Option.{Option, none, some}

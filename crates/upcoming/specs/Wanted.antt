@@ -1,4 +1,4 @@
--- Which query is wanted next (document 01, part 5; `send_dns_*`): origin HTTPS, AAAA, A; targets; alternative services.
+-- Which query is wanted next (rules 5.1 and 5.2; `send_dns_*`): origin HTTPS, AAAA, A; targets; alternative services.
 -- `same` says of two places among the names whether they hold the same name.
 use Rattle.std.specs.Prelude.{Option, Some, None, ℕ, ◌+◌, Bool, false, not, cond, ◌&&◌, List, [], ◌∷◌, nat_eq, take}
 use Rattle.records.specs.Lists.{some?}
