@@ -1,9 +1,9 @@
 -- Input bodies and the call, rules B.1, B.5 and B.7 (document 01, "Numbers and bodies"): what a body says, with its items and bytes where they stand.
-use Rattle.std.specs.Prelude.{cond, ℕ, ◌%◌, List, nat_lt, nat_le, nat_eq, length}
+use Rattle.std.specs.Prelude.{cond, ℕ, ◌%◌, List, Result, Ok, Err, nat_lt, nat_le, nat_eq, length}
 use Rattle.numbers.specs.Got.{Got, got, refused, and_then}
 use Rattle.numbers.specs.Fields.{at_most, bytes_at}
 use Rattle.numbers.specs.Numbers.{read_number}
-use Rattle.numbers.specs.Refusals.{out_of_range, too_many, trailing}
+use Rattle.numbers.specs.Refusals.{out_of_range, too_many, trailing, refusal_number}
 use Rattle.records.specs.declared.queries.Kind.{Kind}
 use Rattle.records.specs.declared.queries.Kind.TheVariants.{Https, Aaaa, A}
 use Rattle.parts.specs.Reading.{Reading, read, fault, next, field}
@@ -11,10 +11,10 @@ use Rattle.parts.specs.Items.{counted}
 use Rattle.parts.specs.Addresses.{address}
 use Rattle.parts.specs.declared.address.Form.TheVariants.{Four, Scoped}
 use Rattle.parts.specs.declared.address.Items.{Items}
+use Rattle.parts.specs.declared.reading.Fault as found
 use Rattle.offers.specs.Offers.{offer}
 use Rattle.bodies.specs.declared.Event.{Event}
 use Rattle.bodies.specs.declared.Event.TheVariants as event
-use Rattle.bodies.specs.declared.Fault.{Fault}
 
 -- the items of an answer: at most 8 addresses, with a scope in an AAAA answer, or at most 4 services
 abbrev pub items_at : Kind → List ℕ → (p : ℕ) → Reading Items
@@ -55,7 +55,17 @@ body_at s = next (field 0 (kind_at s)) (λ kind q. cond (nat_eq kind 7) (read ev
 unfoldable pub event_at : List ℕ → Reading Event
 event_at s = next (body_at s) (λ e end. cond (nat_lt end (length s)) (fault trailing end) (read e end))
 
+-- the number of a first fault and the place of its field
+pub record Fault : Type 0 where
+  pub number : ℕ
+  pub place : ℕ
+
 -- the fault of what was read, and where; 0 where it has none
 abbrev pub fault_of : {A : Type 0} → Reading A → Fault
 fault_of (read v end) = record { number = 0; place = end }
 fault_of (fault n p) = record { number = n; place = p }
+
+-- what the code says of it: where the body ends, or its fault
+abbrev pub fault_shown : Result ℕ found.Fault → Fault
+fault_shown (Ok end) = record { number = 0; place = end }
+fault_shown (Err e) = record { number = refusal_number e.refusal; place = e.place }

@@ -1,6 +1,7 @@
 -- Services of an HTTPS answer where they stand, and the same in their rooms.
 --     located-none, located-all         of services that can't be read, and of those that are found
 --     each-of-four                      what is made of each of four, one after the other
+--     mapped                            what is made of each of some
 --     no_name_lem, no-ech                   the empty span in its room
 --     rooms-brought, rooms-none         in their rooms they are the services that an answer brings, and none are none
 --     offered-located                   the same of the services at a place
@@ -8,10 +9,11 @@
 --     none-located                      where no service is counted, no place is told
 use mathlib.Core.Path.{◌≡◌, refl, sym, ap, ◌∙◌}
 use mathlib.Core.List.{List, [], ◌∷◌, ◌++◌, map, map-append}
-use Prim.Native.Nat.{ℕ, zero, suc, ◌-◌, ◌≤◌}
+use Prim.Native.Nat.{ℕ, zero, suc, ◌-◌, ◌≤◌, ◌<◌}
 use native.Mathlib.Omega.{arith}
 use lib.ListN.{length, get_or, replicate, length-append, length-replicate, length-map}
 use borrow.Author.Tests.{le-leb}
+use Rattle.std.specs.Prelude.{Option, None, Some}
 use Rattle.numbers.specs.Names.{longest_name}
 use Rattle.numbers.specs.declared.field.Span.{Span}
 use Rattle.records.specs.Lists.{padded}
@@ -24,8 +26,6 @@ use Rattle.parts.specs.declared.address.Items.{Items}
 use Rattle.parts.proofs.Items.{listed-few}
 use Rattle.offers.specs.Offers.{offer, service_of, target_name, ech_from, target_ech, brought, no_offered, offered_in}
 use Rattle.offers.specs.Offers.{no_span, span_of, located, no_located, located_in, names_in, echs_in, in_rooms}
-use Rattle.offers.specs.declared.EchSpan.{EchSpan}
-use Rattle.offers.specs.declared.EchSpan.TheVariants.{Without, Sealed}
 use Rattle.offers.specs.declared.Offer.{Offer}
 
 module _ (s : List ℕ) (l : Items) where
@@ -49,6 +49,14 @@ module _ {A B : Type 0} (f : A → B) (z : A) where
   each-of-four (a ∷ b ∷ []) e = absurd (omega arith)
   each-of-four (a ∷ b ∷ c ∷ []) e = absurd (omega arith)
   each-of-four (a ∷ b ∷ c ∷ d ∷ x ∷ l) e = absurd (omega arith)
+
+  -- n elements, each what f makes of the one at its place
+  pub mapped : (n : ℕ) (l : List A) (r : List B) → length l ≡ n → length r ≡ n → ((i : ℕ) → i < n → get_or r i (f z) ≡ f (get_or l i z)) → r ≡ map f l
+  mapped n [] [] d e h = refl
+  mapped n [] (y ∷ r) d e h = absurd (omega (arith, d, e))
+  mapped n (x ∷ l) [] d e h = absurd (omega (arith, d, e))
+  mapped zero (x ∷ l) (y ∷ r) d e h = absurd (omega (arith, d))
+  mapped (suc n) (x ∷ l) (y ∷ r) d e h = λ j. h 0 (omega arith) j ∷ mapped n l r (omega (arith, d)) (omega (arith, e)) (λ i k. h (suc i) (omega (arith, k))) j
 
   map-replicate : (n : ℕ) → map f (replicate n z) ≡ replicate n (f z)
   map-replicate zero = refl
@@ -75,9 +83,9 @@ module _ (s : List ℕ) where
   unfolding ech_in no_ech padded
   no-ech = rw (none_kept 512)
 
-  ech-at : (e : EchSpan) → ech_in (kept 512 s (span_of e)) ≡ ech_from s e
-  ech-at Without = no-ech
-  ech-at (Sealed b) = refl
+  ech-at : (e : Option Span) → ech_in (kept 512 s (span_of e)) ≡ ech_from s e
+  ech-at None = no-ech
+  ech-at (Some b) = refl
 
   map-names : (l : List Offer) → map (λ b. name_in (kept longest_name s b)) (map (λ o. o.head.name) l) ≡ map (target_name s) l
   unfolding target_name

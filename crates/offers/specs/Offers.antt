@@ -1,5 +1,5 @@
 -- A service in an HTTPS answer, rule B.6 (document 01, "Numbers and bodies"): first where its name, ECH bytes and hints stand, then what they are.
-use Rattle.std.specs.Prelude.{cond, ℕ, ◌-◌, List, map, nat_eq, length, replicate}
+use Rattle.std.specs.Prelude.{cond, ℕ, ◌-◌, List, map, nat_eq, length, replicate, Option, None, Some}
 use Rattle.numbers.specs.Fields.{at_most, bytes_at, name_at}
 use Rattle.numbers.specs.Names.{longest_name}
 use Rattle.numbers.specs.Numbers.{read_number}
@@ -22,8 +22,6 @@ use Rattle.parts.specs.Fields.{versions_at, port_at}
 use Rattle.parts.specs.Rooms.{kept, name_in, ech_in}
 use Rattle.parts.specs.declared.address.Form.TheVariants.{Four, Six}
 use Rattle.parts.specs.declared.address.Items.{Items}
-use Rattle.offers.specs.declared.EchSpan.{EchSpan}
-use Rattle.offers.specs.declared.EchSpan.TheVariants.{Without, Sealed}
 use Rattle.offers.specs.declared.Head.{Head}
 use Rattle.offers.specs.declared.Way.{Way}
 use Rattle.offers.specs.declared.Hints.{Hints}
@@ -37,9 +35,9 @@ head s p = next (field p (at_most 65535 out_of_range (read_number s p))) (λ n q
     read (record { priority = n; name = b; versions = v }) end)))
 
 -- ECH: 0 for none, else the length plus one, then the bytes
-unfoldable pub ech : List ℕ → (p : ℕ) → Reading EchSpan
+unfoldable pub ech : List ℕ → (p : ℕ) → Reading (Option Span)
 ech s p = next (field p (at_most 513 too_many (read_number s p))) (λ n q.
-    cond (nat_eq n 0) (read Without q) (next (field q (bytes_at s (n - 1) q)) (λ b end. read (Sealed b) end)))
+    cond (nat_eq n 0) (read None q) (next (field q (bytes_at s (n - 1) q)) (λ b end. read (Some b) end)))
 
 -- port, ECH
 unfoldable pub way : List ℕ → (p : ℕ) → Reading Way
@@ -54,9 +52,9 @@ offer s p = next (head s p) (λ h q. next (way s q) (λ w q. next (hints s q) (�
 
 -- What stands there. The places of its name and ECH bytes in the machine's tables are settled when it is stored.
 
-abbrev pub sealed_at : EchSpan → EchPlace
-sealed_at Without = place.Without
-sealed_at (Sealed b) = place.At 0
+abbrev pub sealed_at : Option Span → EchPlace
+sealed_at None = place.Without
+sealed_at (Some b) = place.At 0
 
 unfoldable pub service_of : List ℕ → Offer → Service
 service_of s o = record {
@@ -74,9 +72,9 @@ service_of s o = record {
 unfoldable pub target_name : List ℕ → Offer → Name
 target_name s o = name_in (kept longest_name s o.head.name)
 
-abbrev pub ech_from : List ℕ → EchSpan → Ech
-ech_from s Without = no_ech
-ech_from s (Sealed b) = ech_in (kept 512 s b)
+abbrev pub ech_from : List ℕ → Option Span → Ech
+ech_from s None = no_ech
+ech_from s (Some b) = ech_in (kept 512 s b)
 
 unfoldable pub target_ech : List ℕ → Offer → Ech
 target_ech s o = ech_from s o.way.ech
@@ -100,9 +98,9 @@ offered_in s l = brought s (listed 4 (offer s) l)
 abbrev pub no_span : Span
 no_span = record { start = 0; len = 0 }
 
-abbrev pub span_of : EchSpan → Span
-span_of Without = no_span
-span_of (Sealed b) = b
+abbrev pub span_of : Option Span → Span
+span_of None = no_span
+span_of (Some b) = b
 
 unfoldable pub located : List ℕ → List Offer → Located
 located s l = record {
