@@ -1,4 +1,3 @@
 pub mod Configuration
 pub mod Filling
 pub mod Given
-pub mod Shown

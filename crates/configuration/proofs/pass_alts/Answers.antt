@@ -1,14 +1,13 @@
-use mathlib.Core.Path.{sym, ap, ◌∙◌}
-use native.Mathlib.Omega.{arith}
-use Rattle.configuration.specs.Shown.{alt_shown}
+use Rattle.std.proofs.Common.{arith}
+use Rattle.std.proofs.lemmas.Grind.{common_steps}
 use Rattle.parts.proofs.Items.{pass-more, pass-none, pass-end}
 use Rattle.configuration.proofs.pass_alts.Goals as goal
 
-pub returns-in-Refused : goal.returns-in-Refused
-returns-in-Refused c = pass-none _ _ _ _ _ c.loop-i.invariant.1 c.loop-i-test.true _ _ (sym (ap alt_shown c.in-Refused.is) ∙ c.read_alt-r.ensures)
+pub returns-in_err-next : goal.returns-in_err-next
+returns-in_err-next c = grind (arith, common_steps, pass-none)
 
 pub loop-i-preserved : goal.loop-i-preserved
-loop-i-preserved c = (omega arith, pass-more _ _ _ _ _ c.loop-i.invariant.1 c.loop-i-test.true (sym (ap alt_shown c.in-Alt.is) ∙ c.read_alt-r.ensures))
+loop-i-preserved c = grind (arith, common_steps, pass-more)
 
 pub returns : goal.returns
-returns c = pass-end _ _ _ _ _ c.loop-i.invariant.1 c.loop-i-test.false
+returns c = grind (arith, common_steps, pass-end)
