@@ -1,3 +1,3 @@
 #![tactic(auto)]
-// Answers in bytes (document 01, what a tape is answered): written whole or not at all.
+// Answers in bytes (rule B.9): written whole or not at all.
 pub mod writer;

@@ -1,6 +1,6 @@
 // Answers written into a lent buffer: all of one, or nothing where it does not fit.
 ghost use Rattle.std.specs.Prelude.{◌≡◌, ◌∷◌, [], ◌++◌, ◌+◌, ◌≤◌, length};
-ghost use Rattle.numbers.specs.Put.{put_answer, put_bytes};
+ghost use Rattle.numbers.specs.Put.{placed, put_answer, put_bytes};
 ghost use Rattle.numbers.specs.Shown.{wrote_shown};
 ghost use Rattle.records.specs.Names.{name_bytes, ech_bytes, connect_name};
 ghost use Rattle.answers.specs.Answers.{query, attempt, input, bit, reason_number, table_number, high_first, answer_bytes};
@@ -11,55 +11,50 @@ use machine::calls::Taken;
 use machine::grant::{Output, Table};
 use machine::wish::Reason;
 use numbers::number::{number_len, write_number};
-use numbers::put::{Wrote, has_room, put_bytes};
+use numbers::put::{has_room, put_bytes};
 use numbers::refusal::{Refusal, refusal_number};
 use records::endpoints::{Endpoint, Target, rank_number};
 use records::names::{Ech, EchPlace, Name, connect_name, name_len};
 use records::queries::{Kind, kind_number};
 
 // How many bytes some numbers take.
+#[tactic(auto, using(crate::proofs::Joined::length_next, crate::proofs::Joined::numbers_few, crate::proofs::Joined::numbers_none))]
 fn numbers_len(numbers: &[u64]) -> usize
     requires { length numbers.now ≤ 8 }
     ensures { result ≡ length (numbers_bytes numbers.now) }
 {
     let mut need: usize = 0;
-    let mut i: usize = 0;
-    while i < numbers.len() {
-        need += number_len(numbers[i]);
-        i += 1;
+    for &n in numbers {
+        need += number_len(n);
     }
     need
 }
 
 // Writes numbers that fit, one after the other; the place after the last.
-fn write_numbers(out: &mut [u8], at: usize, numbers: &[u64]) -> usize
+fn write_numbers(out: &mut [u8], at: usize, numbers: &[u64]) -> Result<usize, Refusal>
     requires { at + length (numbers_bytes numbers.now) ≤ length out.old }
-    ensures next { result ≡ at + length (numbers_bytes numbers.now) }
+    ensures answer { wrote_shown result ≡ placed (at + length (numbers_bytes numbers.now)) }
     ensures bytes { out.new ≡ put_bytes out.old at (numbers_bytes numbers.now) }
 {
     let mut p = at;
-    let mut i: usize = 0;
-    while i < numbers.len() {
-        let n = numbers[i];
-        write_number(out, p, n);
-        p += number_len(n);
-        i += 1;
+    for &n in numbers {
+        p = write_number(out, p, n)?;
     }
-    p
+    Ok(p)
 }
 
 // Writes numbers, or nothing where they do not fit.
-fn put_numbers(out: &mut [u8], at: usize, numbers: &[u64]) -> Wrote
+#[tactic(auto, unfolding(numbers::specs::Put::put_answer, numbers::specs::Put::put_bytes))]
+fn put_numbers(out: &mut [u8], at: usize, numbers: &[u64]) -> Result<usize, Refusal>
     requires { length numbers.now ≤ 8 }
     ensures answer { wrote_shown result ≡ put_answer out.old at (numbers_bytes numbers.now) }
     ensures bytes { out.new ≡ put_bytes out.old at (numbers_bytes numbers.now) }
 {
     let need = numbers_len(numbers);
     if !has_room(out.len(), at, need) {
-        return Wrote::Refused(Refusal::NoRoom);
+        return Err(Refusal::NoRoom);
     }
-    let next = write_numbers(out, at, numbers);
-    Wrote::Next(next)
+    write_numbers(out, at, numbers)
 }
 
 // Writes numbers, bytes, numbers and bytes, or nothing where all do not fit.
@@ -70,7 +65,7 @@ fn put_parts(
     body: &[u8],
     tail: &[u64],
     ech: &[u8],
-) -> Wrote
+) -> Result<usize, Refusal>
     requires { (length head.now ≤ 8) × (length body.now ≤ 512) × (length tail.now ≤ 8) × (length ech.now ≤ 512) }
     ensures answer { wrote_shown result ≡ put_answer out.old at (parts_bytes head.now body.now tail.now ech.now) }
     ensures bytes { out.new ≡ put_bytes out.old at (parts_bytes head.now body.now tail.now ech.now) }
@@ -79,158 +74,104 @@ fn put_parts(
     let second = numbers_len(tail);
     let need = first + body.len() + second + ech.len();
     if !has_room(out.len(), at, need) {
-        return Wrote::Refused(Refusal::NoRoom);
+        return Err(Refusal::NoRoom);
     }
-    let a = write_numbers(out, at, head);
-    put_bytes(out, a, body);
-    let b = a + body.len();
-    let c = write_numbers(out, b, tail);
-    put_bytes(out, c, ech);
-    let next = at + need;
-    Wrote::Next(next)
+    let a = write_numbers(out, at, head)?;
+    let b = put_bytes(out, a, body)?;
+    let c = write_numbers(out, b, tail)?;
+    put_bytes(out, c, ech)
 }
 
 fn bit(b: bool) -> u64
     ensures { result ≡ bit b }
 {
-    if b { 1 } else { 0 }
-}
-
-// The eight bytes of a number, the highest first.
-#[derive(Clone, Copy)]
-struct Eight {
-    bytes: [u8; 8],
-}
-
-fn eight_bytes(x: u64) -> Eight
-    ensures { result.bytes ≡ high_first 8 x }
-{
-    let g = x / 256;
-    let f = g / 256;
-    let e = f / 256;
-    let d = e / 256;
-    let c = d / 256;
-    let b = c / 256;
-    let a = b / 256;
-    Eight {
-        bytes: [
-            (a % 256) as u8,
-            (b % 256) as u8,
-            (c % 256) as u8,
-            (d % 256) as u8,
-            (e % 256) as u8,
-            (f % 256) as u8,
-            (g % 256) as u8,
-            (x % 256) as u8,
-        ],
-    }
+    u64::from(b)
 }
 
 // The sixteen bytes of an IPv6 address.
-#[derive(Clone, Copy)]
-struct Sixteen {
-    bytes: [u8; 16],
-}
-
-fn sixteen_bytes(hi: u64, lo: u64) -> Sixteen
-    ensures { result.bytes ≡ high_first 8 hi ++ high_first 8 lo }
+#[tactic(auto, using(crate::proofs::Puts::eight_bytes))]
+fn sixteen_bytes(hi: u64, lo: u64) -> [u8; 16]
+    ensures { result ≡ high_first 8 hi ++ high_first 8 lo }
 {
-    let h = eight_bytes(hi).bytes;
-    let l = eight_bytes(lo).bytes;
-    Sixteen {
-        bytes: [
-            h[0], h[1], h[2], h[3], h[4], h[5], h[6], h[7], l[0], l[1], l[2], l[3], l[4], l[5],
-            l[6], l[7],
-        ],
-    }
+    let mut bytes = [0; 16];
+    bytes[..8].copy_from_slice(&hi.to_be_bytes());
+    bytes[8..].copy_from_slice(&lo.to_be_bytes());
+    bytes
 }
 
 // How many ECH bytes there are.
+#[tactic(auto, unfolding(records::specs::Names::ech_bytes))]
 fn ech_len(ech: Ech) -> usize
     ensures { result ≡ length (ech_bytes ech) }
 {
-    if 512 < ech.len { 512 } else { ech.len }
+    ech.len.min(512)
 }
 
-fn put_query(out: &mut [u8], at: usize, id: u64, kind: Kind, stale: bool, name: Name) -> Wrote
+#[tactic(auto, using(crate::proofs::Puts::name_inside, crate::proofs::Puts::name_taken, crate::proofs::Puts::query_parts))]
+fn put_query(
+    out: &mut [u8],
+    at: usize,
+    id: u64,
+    kind: Kind,
+    stale: bool,
+    name: Name,
+) -> Result<usize, Refusal>
     ensures answer { wrote_shown result ≡ put_answer out.old at (answer_bytes (query id kind stale (name_bytes name))) }
     ensures bytes { out.new ≡ put_bytes out.old at (answer_bytes (query id kind stale (name_bytes name))) }
 {
     let n = name_len(name);
-    let k = kind_number(kind) as u64;
-    let s = bit(stale);
-    let bytes = name.bytes;
-    let long = n as u64;
-    let head = [1, id, k, s, long];
-    let tail: [u64; 0] = [];
-    let ech: [u8; 0] = [];
-    put_parts(out, at, &head, &bytes[..n], &tail, &ech)
+    let head = [1, id, kind_number(kind) as u64, bit(stale), n as u64];
+    put_parts(out, at, &head, &name.bytes[..n], &[], &[])
 }
 
 fn reason_number(r: Reason) -> u64
     ensures { result ≡ reason_number r }
 {
-    match r {
-        Reason::Dns => 0,
-        Reason::Connection => 1,
-    }
+    r as u64
 }
 
 fn table_number(t: Table) -> u64
     ensures { result ≡ table_number t }
 {
-    match t {
-        Table::Queries => 0,
-        Table::Attempts => 1,
-    }
+    t as u64
 }
 
-fn put_one(out: &mut [u8], at: usize, a: u64) -> Wrote
-    ensures answer { wrote_shown result ≡ put_answer out.old at (numbers_bytes (a ∷ [])) }
-    ensures bytes { out.new ≡ put_bytes out.old at (numbers_bytes (a ∷ [])) }
-{
-    let numbers = [a];
-    put_numbers(out, at, &numbers)
-}
-
-fn put_two(out: &mut [u8], at: usize, a: u64, b: u64) -> Wrote
-    ensures answer { wrote_shown result ≡ put_answer out.old at (numbers_bytes (a ∷ b ∷ [])) }
-    ensures bytes { out.new ≡ put_bytes out.old at (numbers_bytes (a ∷ b ∷ [])) }
-{
-    let numbers = [a, b];
-    put_numbers(out, at, &numbers)
+// An attempt as an output has it.
+#[derive(Clone, Copy)]
+struct Attempt {
+    id: u64,
+    retry: bool,
+    endpoint: Endpoint,
 }
 
 // An attempt to an endpoint with this host, and with ECH bytes after their number.
 fn put_target(
     out: &mut [u8],
     at: usize,
-    id: u64,
-    retry: bool,
-    e: Endpoint,
+    a: Attempt,
     host: &[u8],
     sealed: u64,
     ech: &[u8],
-) -> Wrote
+) -> Result<usize, Refusal>
     requires { (length host.now ≤ 512) × (length ech.now ≤ 512) }
-    ensures answer { wrote_shown result ≡ put_answer out.old at (attempt_bytes id retry e host.now sealed ech.now) }
-    ensures bytes { out.new ≡ put_bytes out.old at (attempt_bytes id retry e host.now sealed ech.now) }
+    ensures answer { wrote_shown result ≡ put_answer out.old at (attempt_bytes a.id a.retry a.endpoint host.now sealed ech.now) }
+    ensures bytes { out.new ≡ put_bytes out.old at (attempt_bytes a.id a.retry a.endpoint host.now sealed ech.now) }
 {
-    let again = bit(retry);
-    let r = e.rank;
-    let rank = rank_number(r) as u64;
+    let id = a.id;
+    let again = bit(a.retry);
+    let e = a.endpoint;
+    let rank = rank_number(e.rank) as u64;
     let port = e.port as u64;
-    let t = e.target;
-    match t {
+    match e.target {
         Target::V4(x) => {
             let head = [3, id, again, rank, 0];
-            let address = eight_bytes(x as u64).bytes;
+            let address = x.to_be_bytes();
             let tail = [port, sealed];
-            put_parts(out, at, &head, &address[4..8], &tail, ech)
+            put_parts(out, at, &head, &address, &tail, ech)
         }
         Target::V6(h, l, s) => {
             let head = [3, id, again, rank, 1];
-            let address = sixteen_bytes(h, l).bytes;
+            let address = sixteen_bytes(h, l);
             let scope = s as u64;
             let tail = [scope, port, sealed];
             put_parts(out, at, &head, &address, &tail, ech)
@@ -247,68 +188,45 @@ fn put_target(
 fn put_endpoint(
     out: &mut [u8],
     at: usize,
-    id: u64,
-    retry: bool,
-    e: Endpoint,
+    a: Attempt,
     host: &[u8],
     ech: &[u8],
-) -> Wrote
+) -> Result<usize, Refusal>
     requires { (length host.now ≤ 512) × (length ech.now ≤ 512) }
-    ensures answer { wrote_shown result ≡ put_answer out.old at (answer_bytes (attempt id retry (said_endpoint host.now ech.now e))) }
-    ensures bytes { out.new ≡ put_bytes out.old at (answer_bytes (attempt id retry (said_endpoint host.now ech.now e))) }
+    ensures answer { wrote_shown result ≡ put_answer out.old at (answer_bytes (attempt a.id a.retry (said_endpoint host.now ech.now a.endpoint))) }
+    ensures bytes { out.new ≡ put_bytes out.old at (answer_bytes (attempt a.id a.retry (said_endpoint host.now ech.now a.endpoint))) }
 {
-    let place = e.ech;
-    match place {
-        EchPlace::Without => put_target(out, at, id, retry, e, host, 0, &ech[..0]),
+    match a.endpoint.ech {
+        EchPlace::Without => put_target(out, at, a, host, 0, &[]),
         EchPlace::At(_) => {
             let sealed = ech.len() + 1;
-            put_target(out, at, id, retry, e, host, sealed as u64, ech)
+            put_target(out, at, a, host, sealed as u64, ech)
         }
     }
 }
 
 // The same by the names that the host comes from.
-fn put_host<'a>(
-    out: &mut [u8],
-    at: usize,
-    id: u64,
-    retry: bool,
-    e: Endpoint,
-    origin: &'a [u8],
-    own: &'a [u8],
-    ech: &[u8],
-) -> Wrote
-    requires { (length origin.now ≤ 253) × (length own.now ≤ 253) × (length ech.now ≤ 512) }
-    ensures answer { wrote_shown result ≡ put_answer out.old at (answer_bytes (attempt id retry (said_endpoint (connect_name origin.now own.now) ech.now e))) }
-    ensures bytes { out.new ≡ put_bytes out.old at (answer_bytes (attempt id retry (said_endpoint (connect_name origin.now own.now) ech.now e))) }
-{
-    let host = connect_name(origin, own);
-    put_endpoint(out, at, id, retry, e, host, ech)
-}
-
+#[tactic(auto, using(crate::proofs::Puts::name_inside, crate::proofs::Puts::ech_inside))]
 fn put_attempt(
     out: &mut [u8],
     at: usize,
-    id: u64,
-    retry: bool,
-    e: Endpoint,
+    a: Attempt,
     origin: Name,
     own: Name,
     ech: Ech,
-) -> Wrote
-    ensures answer { wrote_shown result ≡ put_answer out.old at (answer_bytes (attempt id retry (said_endpoint (connect_name (name_bytes origin) (name_bytes own)) (ech_bytes ech) e))) }
-    ensures bytes { out.new ≡ put_bytes out.old at (answer_bytes (attempt id retry (said_endpoint (connect_name (name_bytes origin) (name_bytes own)) (ech_bytes ech) e))) }
+) -> Result<usize, Refusal>
+    ensures answer { wrote_shown result ≡ put_answer out.old at (answer_bytes (attempt a.id a.retry (said_endpoint (connect_name (name_bytes origin) (name_bytes own)) (ech_bytes ech) a.endpoint))) }
+    ensures bytes { out.new ≡ put_bytes out.old at (answer_bytes (attempt a.id a.retry (said_endpoint (connect_name (name_bytes origin) (name_bytes own)) (ech_bytes ech) a.endpoint))) }
 {
     let n = name_len(origin);
     let m = name_len(own);
     let k = ech_len(ech);
-    let x = origin.bytes;
-    let y = own.bytes;
-    let z = ech.bytes;
-    put_host(out, at, id, retry, e, &x[..n], &y[..m], &z[..k])
+    let host = connect_name(&origin.bytes[..n], &own.bytes[..m]);
+    put_endpoint(out, at, a, host, &ech.bytes[..k])
 }
 
 // The answer to a call. `origin` is the origin's name, `name` and `ech` are what lies at the places that the output has.
+#[tactic(auto, unfolding(crate::specs::Answers::answer_bytes, crate::specs::Answers::joined, crate::specs::Parts::numbers_bytes))]
 pub fn put_output(
     out: &mut [u8],
     at: usize,
@@ -316,19 +234,26 @@ pub fn put_output(
     origin: Name,
     name: Name,
     ech: Ech,
-) -> Wrote
+) -> Result<usize, Refusal>
     ensures answer { wrote_shown result ≡ put_answer out.old at (answer_bytes (said_by (name_bytes origin) (name_bytes name) (ech_bytes ech) output)) }
     ensures bytes { out.new ≡ put_bytes out.old at (answer_bytes (said_by (name_bytes origin) (name_bytes name) (ech_bytes ech) output)) }
 {
     match output {
-        Output::Waiting => put_one(out, at, 0),
+        Output::Waiting => put_numbers(out, at, &[0]),
         Output::Query(id, kind, stale, _) => put_query(out, at, id, kind, stale, name),
-        Output::Timer(ns) => put_two(out, at, 2, ns),
-        Output::Attempt(id, retry, e) => put_attempt(out, at, id, retry, e, origin, name, ech),
-        Output::Cancel(id) => put_two(out, at, 4, id),
-        Output::Succeeded => put_one(out, at, 5),
-        Output::Failed(r) => put_two(out, at, 6, reason_number(r)),
-        Output::Full(t) => put_two(out, at, 7, table_number(t)),
+        Output::Timer(ns) => put_numbers(out, at, &[2, ns]),
+        Output::Attempt(id, retry, endpoint) => {
+            let a = Attempt {
+                id,
+                retry,
+                endpoint,
+            };
+            put_attempt(out, at, a, origin, name, ech)
+        }
+        Output::Cancel(id) => put_numbers(out, at, &[4, id]),
+        Output::Succeeded => put_numbers(out, at, &[5]),
+        Output::Failed(r) => put_numbers(out, at, &[6, reason_number(r)]),
+        Output::Full(t) => put_numbers(out, at, &[7, table_number(t)]),
     }
 }
 
@@ -343,21 +268,20 @@ fn taken_number(t: Taken) -> u8
 }
 
 // The answer to an input.
-pub fn put_taken(out: &mut [u8], at: usize, t: Taken) -> Wrote
+#[tactic(auto, unfolding(crate::specs::Answers::answer_bytes, crate::specs::Answers::joined, crate::specs::Parts::numbers_bytes))]
+pub fn put_taken(out: &mut [u8], at: usize, t: Taken) -> Result<usize, Refusal>
     ensures answer { wrote_shown result ≡ put_answer out.old at (answer_bytes (input (taken_number t))) }
     ensures bytes { out.new ≡ put_bytes out.old at (answer_bytes (input (taken_number t))) }
 {
-    let n = taken_number(t) as u64;
-    put_two(out, at, 8, n)
+    put_numbers(out, at, &[8, taken_number(t) as u64])
 }
 
 fn target_name(t: Target) -> u8
     ensures { result ≡ target_name t }
 {
     match t {
-        Target::V4(_) => 0,
-        Target::V6(_, _, _) => 0,
         Target::Named(p) => p,
+        _ => 0,
     }
 }
 
@@ -365,21 +289,14 @@ fn named_at(output: Output) -> u8
     ensures { result ≡ named_at output }
 {
     match output {
-        Output::Waiting => 0,
         Output::Query(_, _, _, p) => p,
-        Output::Timer(_) => 0,
-        Output::Attempt(_, _, e) => {
-            let t = e.target;
-            target_name(t)
-        }
-        Output::Cancel(_) => 0,
-        Output::Succeeded => 0,
-        Output::Failed(_) => 0,
-        Output::Full(_) => 0,
+        Output::Attempt(_, _, e) => target_name(e.target),
+        _ => 0,
     }
 }
 
 // The place of the name that an output has, always one of the table; 0 where it has none.
+#[tactic(auto, unfolding(crate::specs::Outputs::output_name))]
 pub fn output_name(output: Output) -> usize
     ensures { result ≡ output_name output }
 {
@@ -400,21 +317,13 @@ fn sealed_at(output: Output) -> u8
     ensures { result ≡ sealed_at output }
 {
     match output {
-        Output::Waiting => 0,
-        Output::Query(_, _, _, _) => 0,
-        Output::Timer(_) => 0,
-        Output::Attempt(_, _, e) => {
-            let s = e.ech;
-            sealed_place(s)
-        }
-        Output::Cancel(_) => 0,
-        Output::Succeeded => 0,
-        Output::Failed(_) => 0,
-        Output::Full(_) => 0,
+        Output::Attempt(_, _, e) => sealed_place(e.ech),
+        _ => 0,
     }
 }
 
 // The same of its ECH bytes.
+#[tactic(auto, unfolding(crate::specs::Outputs::output_ech))]
 pub fn output_ech(output: Output) -> usize
     ensures { result ≡ output_ech output }
 {

@@ -34,7 +34,7 @@ use Rattle.answers.specs.Answers.{Field, number, raw, bit, reason_number, table_
 use Rattle.reader.specs.Reading.{kind_of, rank_of, reason_of, table_of, sized_at, query_at, four_at, six_at, host_at, target_by, target_at, sealed_by, ech_at, port_at, endpoint_at}
 use Rattle.reader.specs.Saying.{target_in, ech_in, endpoint_in, FitsTarget, FitsEch}
 use Rattle.reader.specs.declared.TargetSpan.TheVariants.{V4, V6, Named}
-use Rattle.reader.specs.declared.EchSpan.TheVariants.{Without, Sealed}
+use Rattle.std.specs.Prelude.{Some, None}
 use Rattle.reader.specs.declared.EndpointSpan.{EndpointSpan}
 use Rattle.reader.specs.declared.Answer.TheVariants.{Query}
 use Rattle.reader.proofs.Branches.{by-four, by-six, by-host, by-none, by-sealed}
@@ -273,8 +273,8 @@ module _ (s : List ℕ) (p : ℕ) where
       let q = p + length (number_bytes 0) in
       let e : q ≡ p + length (joined (number 0 ∷ [])) = omega (arith, number-ends s p 0 [] h) in
       record {
-        value = Without;
-        reads = ap (got Without) (sym e) ∙ by-none s 0 q refl ∙ went_on (sealed_by s) 0 q (number-reads s p 0 [] h 513 too_many (omega arith) (omega arith));
+        value = None;
+        reads = ap (got None) (sym e) ∙ by-none s 0 q refl ∙ went_on (sealed_by s) 0 q (number-reads s p 0 [] h 513 too_many (omega arith) (omega arith));
         right = refl;
       }
   ech-back (some x) ok h =
@@ -286,8 +286,8 @@ module _ (s : List ℕ) (p : ℕ) where
       let e : q + length x ≡ p + length (joined (number n ∷ raw x ∷ [])) = omega (arith, number-ends s p n (raw x ∷ []) h, raw-ends s q x [] u) in
       let m : length x ≡ n - 1 = omega arith in
       record {
-        value = Sealed b;
-        reads = ap (got (Sealed b)) (sym e) ∙ went_on (λ b end. got (Sealed b) end) b (q + length x) (bytes_back s q x w ∙ ap (λ k. bytes_at s k q) m)
+        value = Some b;
+        reads = ap (got (Some b)) (sym e) ∙ went_on (λ b end. got (Some b) end) b (q + length x) (bytes_back s q x w ∙ ap (λ k. bytes_at s k q) m)
             ∙ by-sealed s n q (λ z. omega arith)
             ∙ went_on (sealed_by s) n q (number-reads s p n (raw x ∷ []) h 513 too_many (omega arith) (omega arith));
         right = ap some (span-back s q x w);

@@ -9,7 +9,7 @@ use borrow.Author.Tests.{eq-eqb, ne_eqb}
 use Rattle.numbers.specs.Got.{got, and_then}
 use Rattle.numbers.specs.Fields.{bytes_at}
 use Rattle.reader.specs.Reading.{four_at, six_at, host_at, target_by, sealed_by, query_at, attempt_at, reason_of, table_of, chosen_at, most_of, rest_at, kind_at}
-use Rattle.reader.specs.declared.EchSpan.TheVariants.{Without, Sealed}
+use Rattle.std.specs.Prelude.{Some, None}
 use Rattle.reader.specs.declared.Answer.TheVariants.{Waiting, Timer, Cancel, Succeeded, Failed, Full, Taken}
 
 module _ (s : List ℕ) (kind at : ℕ) where
@@ -25,11 +25,11 @@ module _ (s : List ℕ) (kind at : ℕ) where
   unfolding target_by
   by-host n m = simp (ne_eqb kind 0 n, ne_eqb kind 1 m)
 
-  pub by-none : kind ≡ 0 → got Without at ≡ sealed_by s kind at
+  pub by-none : kind ≡ 0 → got None at ≡ sealed_by s kind at
   unfolding sealed_by
   by-none e = simp (eq-eqb kind 0 e)
 
-  pub by-sealed : (kind ≡ 0 → ⊥) → and_then (bytes_at s (kind - 1) at) (λ b end. got (Sealed b) end) ≡ sealed_by s kind at
+  pub by-sealed : (kind ≡ 0 → ⊥) → and_then (bytes_at s (kind - 1) at) (λ b end. got (Some b) end) ≡ sealed_by s kind at
   unfolding sealed_by
   by-sealed n = simp (ne_eqb kind 0 n)
 

@@ -1,12 +1,11 @@
 -- What the reader of answers shows settles what it gives: any two that meet its promise are equal.
-use mathlib.Core.Path.{◌≡◌, ap}
-use Rattle.numbers.proofs.Settled.{refusal-settled}
-use Rattle.reader.specs.Shown.{answer_shown}
-use Rattle.reader.specs.declared.AnswerRead as answer
-use Rattle.reader.specs.declared.AnswerRead.TheVariants as answers
+use mathlib.Core.Path.{◌≡◌}
+use Prim.Native.Nat.{ℕ}
+use Rattle.std.specs.Prelude.{Result}
+use Rattle.numbers.specs.Shown.{shown}
+use Rattle.numbers.specs.declared.refusal.Refusal.{Refusal}
+use Rattle.numbers.proofs.Settled.{settled}
+use Rattle.reader.specs.declared.Answer.{Answer}
 
-pub answer-settled : (a b : answer.AnswerRead) → answer_shown a ≡ answer_shown b → a ≡ b
-answer-settled (answers.Answer x p) (answers.Answer y q) e = cc
-answer-settled (answers.Answer x p) (answers.Refused b) e = cc
-answer-settled (answers.Refused a) (answers.Answer y q) e = cc
-answer-settled (answers.Refused a) (answers.Refused b) e = ap answers.Refused (refusal-settled a b (cc))
+pub answer-settled : (a b : Result (Answer × ℕ) Refusal) → shown a ≡ shown b → a ≡ b
+answer-settled a b e = settled a b e

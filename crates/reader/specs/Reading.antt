@@ -1,5 +1,5 @@
 -- Answers read back: the first fault in the order of the fields, or what the answer says with its bytes where they stand.
-use Rattle.std.specs.Prelude.{ℕ, ◌-◌, cond, List, nat_eq}
+use Rattle.std.specs.Prelude.{ℕ, ◌-◌, cond, List, Option, Some, None, nat_eq}
 use Rattle.numbers.specs.Got.{Got, got, and_then}
 use Rattle.numbers.specs.Fields.{at_most, bytes_at}
 use Rattle.numbers.specs.Names.{longest_name}
@@ -16,8 +16,6 @@ use Rattle.machine.specs.declared.grant.Table.{Table}
 use Rattle.machine.specs.declared.grant.Table.TheVariants as table
 use Rattle.reader.specs.declared.TargetSpan.{TargetSpan}
 use Rattle.reader.specs.declared.TargetSpan.TheVariants.{V4, V6, Named}
-use Rattle.reader.specs.declared.EchSpan.{EchSpan}
-use Rattle.reader.specs.declared.EchSpan.TheVariants.{Without, Sealed}
 use Rattle.reader.specs.declared.EndpointSpan.{EndpointSpan}
 use Rattle.reader.specs.declared.Answer.{Answer}
 use Rattle.reader.specs.declared.Answer.TheVariants.{Waiting, Query, Timer, Attempt, Cancel, Succeeded, Failed, Full, Taken}
@@ -68,10 +66,10 @@ unfoldable pub target_at : List ℕ → (at : ℕ) → Got TargetSpan
 target_at s at = and_then (chosen_at s 2 at) (target_by s)
 
 -- "0 none, else length+1, bytes"
-unfoldable pub sealed_by : List ℕ → (sealed at : ℕ) → Got EchSpan
-sealed_by s sealed at = cond (nat_eq sealed 0) (got Without at) (and_then (bytes_at s (sealed - 1) at) (λ b end. got (Sealed b) end))
+unfoldable pub sealed_by : List ℕ → (sealed at : ℕ) → Got (Option Span)
+sealed_by s sealed at = cond (nat_eq sealed 0) (got None at) (and_then (bytes_at s (sealed - 1) at) (λ b end. got (Some b) end))
 
-unfoldable pub ech_at : List ℕ → (at : ℕ) → Got EchSpan
+unfoldable pub ech_at : List ℕ → (at : ℕ) → Got (Option Span)
 ech_at s at = and_then (at_most 513 too_many (read_number s at)) (sealed_by s)
 
 -- "version rank, target, ECH"; the port ends the target

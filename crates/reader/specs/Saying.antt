@@ -1,15 +1,15 @@
 -- What an answer that was read says, with its bytes; and which answers fit the bytes (rules S.1 and B.10): all that the writer puts.
-use Rattle.std.specs.Prelude.{ℕ, ◌+◌, ◌^◌, ◌≤◌, ◌<◌, List, length}
+use Rattle.std.specs.Prelude.{ℕ, ◌+◌, ◌^◌, ◌≤◌, ◌<◌, List, length, Some, None}
+use Rattle.std.specs.Prelude as code
 use Rattle.std.proofs.Math.Option.{Option, none, some}
 use Rattle.numbers.specs.Fields.{span_bytes}
 use Rattle.numbers.specs.Names.{longest_name}
+use Rattle.numbers.specs.declared.field.Span.{Span}
 use Rattle.records.specs.Endpoints.{ShownTarget, four, six, host, Shown}
 use Rattle.parts.specs.Addresses.{word, long}
 use Rattle.answers.specs.Answers.{Said, waiting, query, timer, attempt, cancel, succeeded, failed, full, input}
 use Rattle.reader.specs.declared.TargetSpan.{TargetSpan}
 use Rattle.reader.specs.declared.TargetSpan.TheVariants.{V4, V6, Named}
-use Rattle.reader.specs.declared.EchSpan.{EchSpan}
-use Rattle.reader.specs.declared.EchSpan.TheVariants.{Without, Sealed}
 use Rattle.reader.specs.declared.EndpointSpan.{EndpointSpan}
 use Rattle.reader.specs.declared.Answer.{Answer}
 use Rattle.reader.specs.declared.Answer.TheVariants.{Waiting, Query, Timer, Attempt, Cancel, Succeeded, Failed, Full, Taken}
@@ -19,9 +19,9 @@ target_in s (V4 b) = four (word s b.start)
 target_in s (V6 b scope) = six (long s b.start) (long s (b.start + 8)) scope
 target_in s (Named b) = host (span_bytes s b)
 
-abbrev pub ech_in : List ℕ → EchSpan → Option (List ℕ)
-ech_in s Without = none
-ech_in s (Sealed b) = some (span_bytes s b)
+abbrev pub ech_in : List ℕ → code.Option Span → Option (List ℕ)
+ech_in s None = none
+ech_in s (Some b) = some (span_bytes s b)
 
 abbrev pub endpoint_in : List ℕ → EndpointSpan → Shown
 endpoint_in s e = record { target = target_in s e.target; port = e.port; rank = e.rank; ech = ech_in s e.ech }

@@ -1,14 +1,12 @@
 #![tactic(auto)]
-// Answers read back (document 01, what a tape is answered): what each says, and where its bytes stand.
+// Answers read back (rules S.1 and B.10): what each says, and where its bytes stand.
 ghost use Rattle.std.specs.Prelude.{◌≡◌};
+ghost use Rattle.numbers.specs.Shown.{shown};
 ghost use Rattle.reader.specs.Reading.{kind_of, rank_of, reason_of, table_of, sized_at, query_at, four_at, six_at, host_at, target_at, ech_at, port_at, endpoint_at, attempt_at, most_of, rest_at, kind_at, answer_at};
-ghost use Rattle.reader.specs.Shown.{target_shown, ech_shown, endpoint_shown, answer_shown};
-ghost use Rattle.numbers.specs.Shown.{span_shown};
 
 use machine::grant::Table;
 use machine::wish::Reason;
-use numbers::field::{Span, SpanRead, read_at_most, read_bytes};
-use numbers::number::Read;
+use numbers::field::{Span, read_at_most, read_bytes};
 use numbers::refusal::Refusal;
 use records::endpoints::Rank;
 use records::queries::Kind;
@@ -21,19 +19,13 @@ pub enum TargetSpan {
     Named(Span),
 }
 
-// Where ECH bytes stand, or that there are none.
-#[derive(Clone, Copy)]
-pub enum EchSpan {
-    Without,
-    Sealed(Span),
-}
-
 #[derive(Clone, Copy)]
 pub struct EndpointSpan {
     pub target: TargetSpan,
     pub port: u16,
     pub rank: Rank,
-    pub ech: EchSpan,
+    // Where its ECH bytes stand, if it has any.
+    pub ech: Option<Span>,
 }
 
 // An answer: the cases of `Output`, with bytes where they stand, and the answer to an input.
@@ -53,319 +45,205 @@ pub enum Answer {
     Taken(u64),
 }
 
-#[derive(Clone, Copy)]
-pub enum TargetRead {
-    Target(TargetSpan, usize),
-    Refused(Refusal),
-}
+// A value with the place after its last byte.
+type Read<T> = Result<(T, usize), Refusal>;
 
-#[derive(Clone, Copy)]
-pub enum EchRead {
-    Ech(EchSpan, usize),
-    Refused(Refusal),
-}
-
-#[derive(Clone, Copy)]
-pub enum EndpointRead {
-    Endpoint(EndpointSpan, usize),
-    Refused(Refusal),
-}
-
-#[derive(Clone, Copy)]
-pub enum AnswerRead {
-    // The answer, and the place after its last byte.
-    Answer(Answer, usize),
-    Refused(Refusal),
-}
-
+#[tactic(auto, unfolding(crate::specs::Reading::kind_of))]
 fn kind_of(n: u64) -> Kind
     ensures { result ≡ kind_of n }
 {
-    if n == 0 {
-        return Kind::Https;
+    match n {
+        0 => Kind::Https,
+        1 => Kind::Aaaa,
+        _ => Kind::A,
     }
-    if n == 1 {
-        return Kind::Aaaa;
-    }
-    Kind::A
 }
 
+#[tactic(auto, unfolding(crate::specs::Reading::rank_of))]
 fn rank_of(n: u64) -> Rank
     ensures { result ≡ rank_of n }
 {
-    if n == 0 {
-        return Rank::H3;
+    match n {
+        0 => Rank::H3,
+        1 => Rank::H2OrH1,
+        2 => Rank::H2,
+        _ => Rank::H1,
     }
-    if n == 1 {
-        return Rank::H2OrH1;
-    }
-    if n == 2 {
-        return Rank::H2;
-    }
-    Rank::H1
 }
 
+#[tactic(auto, unfolding(crate::specs::Reading::reason_of))]
 fn reason_of(n: u64) -> Reason
     ensures { result ≡ reason_of n }
 {
-    if n == 0 {
-        return Reason::Dns;
+    match n {
+        0 => Reason::Dns,
+        _ => Reason::Connection,
     }
-    Reason::Connection
 }
 
+#[tactic(auto, unfolding(crate::specs::Reading::table_of))]
 fn table_of(n: u64) -> Table
     ensures { result ≡ table_of n }
 {
-    if n == 0 {
-        return Table::Queries;
+    match n {
+        0 => Table::Queries,
+        _ => Table::Attempts,
     }
-    Table::Attempts
 }
 
 // Bytes after their length, which is at most a name's.
-fn read_sized(s: &[u8], at: usize) -> SpanRead
-    ensures { span_shown result ≡ sized_at s.now at }
+#[tactic(auto, unfolding(crate::specs::Reading::sized_at))]
+fn read_sized(s: &[u8], at: usize) -> Read<Span>
+    ensures { shown result ≡ sized_at s.now at }
 {
-    let r = read_at_most(s, at, 253, Refusal::TooMany);
-    match r {
-        Read::Refused(e) => SpanRead::Refused(e),
-        Read::Number(n, next) => read_bytes(s, next, n as usize),
-    }
+    let (n, next) = read_at_most(s, at, 253, Refusal::TooMany)?;
+    read_bytes(s, next, n as usize)
 }
 
 // A query after its id: type, allow_stale, name.
-fn read_query(s: &[u8], at: usize, id: u64) -> AnswerRead
-    ensures { answer_shown result ≡ query_at s.now id at }
+#[tactic(auto, unfolding(crate::specs::Reading::query_at))]
+fn read_query(s: &[u8], at: usize, id: u64) -> Read<Answer>
+    ensures { shown result ≡ query_at s.now id at }
 {
-    let k = read_at_most(s, at, 2, Refusal::OutOfRange);
-    match k {
-        Read::Refused(e) => AnswerRead::Refused(e),
-        Read::Number(kind, next) => {
-            let f = read_at_most(s, next, 1, Refusal::OutOfRange);
-            match f {
-                Read::Refused(e) => AnswerRead::Refused(e),
-                Read::Number(stale, after) => {
-                    let b = read_sized(s, after);
-                    match b {
-                        SpanRead::Refused(e) => AnswerRead::Refused(e),
-                        SpanRead::Bytes(name, end) => AnswerRead::Answer(
-                            Answer::Query(id, kind_of(kind), stale == 1, name),
-                            end,
-                        ),
-                    }
-                }
-            }
-        }
-    }
+    let (kind, next) = read_at_most(s, at, 2, Refusal::OutOfRange)?;
+    let (stale, after) = read_at_most(s, next, 1, Refusal::OutOfRange)?;
+    let (name, end) = read_sized(s, after)?;
+    Ok((Answer::Query(id, kind_of(kind), stale == 1, name), end))
 }
 
-fn read_four(s: &[u8], at: usize) -> TargetRead
-    ensures { target_shown result ≡ four_at s.now at }
+#[tactic(auto, unfolding(crate::specs::Reading::four_at))]
+fn read_four(s: &[u8], at: usize) -> Read<TargetSpan>
+    ensures { shown result ≡ four_at s.now at }
 {
-    let b = read_bytes(s, at, 4);
-    match b {
-        SpanRead::Refused(e) => TargetRead::Refused(e),
-        SpanRead::Bytes(address, next) => TargetRead::Target(TargetSpan::V4(address), next),
-    }
+    let (address, end) = read_bytes(s, at, 4)?;
+    Ok((TargetSpan::V4(address), end))
 }
 
-fn read_six(s: &[u8], at: usize) -> TargetRead
-    ensures { target_shown result ≡ six_at s.now at }
+#[tactic(auto, unfolding(crate::specs::Reading::six_at, numbers::specs::Fields::at_most))]
+fn read_six(s: &[u8], at: usize) -> Read<TargetSpan>
+    ensures { shown result ≡ six_at s.now at }
 {
-    let b = read_bytes(s, at, 16);
-    match b {
-        SpanRead::Refused(e) => TargetRead::Refused(e),
-        SpanRead::Bytes(address, next) => {
-            let n = read_at_most(s, next, 4294967295, Refusal::OutOfRange);
-            match n {
-                Read::Refused(e) => TargetRead::Refused(e),
-                Read::Number(scope, end) => {
-                    let zone = scope as u32;
-                    TargetRead::Target(TargetSpan::V6(address, zone), end)
-                }
-            }
-        }
-    }
+    let (address, next) = read_bytes(s, at, 16)?;
+    let (scope, end) = read_at_most(s, next, 4294967295, Refusal::OutOfRange)?;
+    Ok((TargetSpan::V6(address, scope as u32), end))
 }
 
-fn read_host(s: &[u8], at: usize) -> TargetRead
-    ensures { target_shown result ≡ host_at s.now at }
+#[tactic(auto, unfolding(crate::specs::Reading::host_at))]
+fn read_host(s: &[u8], at: usize) -> Read<TargetSpan>
+    ensures { shown result ≡ host_at s.now at }
 {
-    let b = read_sized(s, at);
-    match b {
-        SpanRead::Refused(e) => TargetRead::Refused(e),
-        SpanRead::Bytes(name, next) => TargetRead::Target(TargetSpan::Named(name), next),
-    }
+    let (name, end) = read_sized(s, at)?;
+    Ok((TargetSpan::Named(name), end))
 }
 
-fn read_target(s: &[u8], at: usize) -> TargetRead
-    ensures { target_shown result ≡ target_at s.now at }
+#[tactic(auto, unfolding(crate::specs::Reading::target_at, crate::specs::Reading::target_by))]
+fn read_target(s: &[u8], at: usize) -> Read<TargetSpan>
+    ensures { shown result ≡ target_at s.now at }
 {
-    let k = read_at_most(s, at, 2, Refusal::OutOfRange);
-    match k {
-        Read::Refused(e) => TargetRead::Refused(e),
-        Read::Number(kind, next) => {
-            if kind == 0 {
-                return read_four(s, next);
-            }
-            if kind == 1 {
-                return read_six(s, next);
-            }
-            read_host(s, next)
-        }
+    let (kind, next) = read_at_most(s, at, 2, Refusal::OutOfRange)?;
+    match kind {
+        0 => read_four(s, next),
+        1 => read_six(s, next),
+        _ => read_host(s, next),
     }
 }
 
 #[tactic(auto, unfolding(crate::specs::Reading::ech_at, crate::specs::Reading::sealed_by))]
-fn read_ech(s: &[u8], at: usize) -> EchRead
-    ensures { ech_shown result ≡ ech_at s.now at }
+fn read_ech(s: &[u8], at: usize) -> Read<Option<Span>>
+    ensures { shown result ≡ ech_at s.now at }
 {
-    let n = read_at_most(s, at, 513, Refusal::TooMany);
-    match n {
-        Read::Refused(e) => EchRead::Refused(e),
-        Read::Number(sealed, next) => {
-            if sealed == 0 {
-                return EchRead::Ech(EchSpan::Without, next);
-            }
-            let len = sealed - 1;
-            let b = read_bytes(s, next, len as usize);
-            match b {
-                SpanRead::Refused(e) => EchRead::Refused(e),
-                SpanRead::Bytes(ech, end) => EchRead::Ech(EchSpan::Sealed(ech), end),
-            }
-        }
+    let (sealed, next) = read_at_most(s, at, 513, Refusal::TooMany)?;
+    if sealed == 0 {
+        return Ok((None, next));
     }
+    let len = sealed - 1;
+    let (ech, end) = read_bytes(s, next, len as usize)?;
+    Ok((Some(ech), end))
 }
 
 // Port and ECH of an endpoint.
-fn read_port(s: &[u8], at: usize, rank: u64, target: TargetSpan) -> EndpointRead
-    ensures { endpoint_shown result ≡ port_at s.now rank target at }
+#[tactic(auto, unfolding(crate::specs::Reading::port_at, numbers::specs::Fields::at_most))]
+fn read_port(s: &[u8], at: usize, rank: u64, target: TargetSpan) -> Read<EndpointSpan>
+    ensures { shown result ≡ port_at s.now rank target at }
 {
-    let p = read_at_most(s, at, 65535, Refusal::OutOfRange);
-    match p {
-        Read::Refused(e) => EndpointRead::Refused(e),
-        Read::Number(port, next) => {
-            let x = read_ech(s, next);
-            match x {
-                EchRead::Refused(e) => EndpointRead::Refused(e),
-                EchRead::Ech(ech, end) => {
-                    let short = port as u16;
-                    EndpointRead::Endpoint(
-                        EndpointSpan {
-                            target,
-                            port: short,
-                            rank: rank_of(rank),
-                            ech,
-                        },
-                        end,
-                    )
-                }
-            }
-        }
-    }
+    let (port, next) = read_at_most(s, at, 65535, Refusal::OutOfRange)?;
+    let (ech, end) = read_ech(s, next)?;
+    let endpoint = EndpointSpan {
+        target,
+        port: port as u16,
+        rank: rank_of(rank),
+        ech,
+    };
+    Ok((endpoint, end))
 }
 
-fn read_endpoint(s: &[u8], at: usize) -> EndpointRead
-    ensures { endpoint_shown result ≡ endpoint_at s.now at }
+#[tactic(auto, unfolding(crate::specs::Reading::endpoint_at))]
+fn read_endpoint(s: &[u8], at: usize) -> Read<EndpointSpan>
+    ensures { shown result ≡ endpoint_at s.now at }
 {
-    let k = read_at_most(s, at, 3, Refusal::OutOfRange);
-    match k {
-        Read::Refused(e) => EndpointRead::Refused(e),
-        Read::Number(rank, next) => {
-            let t = read_target(s, next);
-            match t {
-                TargetRead::Refused(e) => EndpointRead::Refused(e),
-                TargetRead::Target(target, after) => read_port(s, after, rank, target),
-            }
-        }
-    }
+    let (rank, next) = read_at_most(s, at, 3, Refusal::OutOfRange)?;
+    let (target, after) = read_target(s, next)?;
+    read_port(s, after, rank, target)
 }
 
 // An attempt after its id: retry flag, rank, target, port, ECH.
-fn read_attempt(s: &[u8], at: usize, id: u64) -> AnswerRead
-    ensures { answer_shown result ≡ attempt_at s.now id at }
+#[tactic(auto, unfolding(crate::specs::Reading::attempt_at))]
+fn read_attempt(s: &[u8], at: usize, id: u64) -> Read<Answer>
+    ensures { shown result ≡ attempt_at s.now id at }
 {
-    let f = read_at_most(s, at, 1, Refusal::OutOfRange);
-    match f {
-        Read::Refused(e) => AnswerRead::Refused(e),
-        Read::Number(retry, next) => {
-            let x = read_endpoint(s, next);
-            match x {
-                EndpointRead::Refused(e) => AnswerRead::Refused(e),
-                EndpointRead::Endpoint(endpoint, end) => {
-                    AnswerRead::Answer(Answer::Attempt(id, retry == 1, endpoint), end)
-                }
-            }
+    let (retry, next) = read_at_most(s, at, 1, Refusal::OutOfRange)?;
+    let (endpoint, end) = read_endpoint(s, next)?;
+    Ok((Answer::Attempt(id, retry == 1, endpoint), end))
+}
+
+// The most that the number after an answer's kind can be: an id or a time may be any.
+#[tactic(auto, unfolding(crate::specs::Reading::most_of))]
+fn most_of(kind: u64) -> u64
+    ensures { result ≡ most_of kind }
+{
+    match kind {
+        6 | 7 => 1,
+        8 => 13,
+        _ => u64::MAX,
+    }
+}
+
+// An answer after its kind and the number n that follows it.
+#[tactic(auto, unfolding(crate::specs::Reading::rest_at))]
+fn read_rest(s: &[u8], at: usize, kind: u64, n: u64) -> Read<Answer>
+    ensures { shown result ≡ rest_at s.now kind n at }
+{
+    match kind {
+        1 => read_query(s, at, n),
+        2 => Ok((Answer::Timer(n), at)),
+        3 => read_attempt(s, at, n),
+        4 => Ok((Answer::Cancel(n), at)),
+        6 => Ok((Answer::Failed(reason_of(n)), at)),
+        7 => Ok((Answer::Full(table_of(n)), at)),
+        _ => Ok((Answer::Taken(n), at)),
+    }
+}
+
+// An answer after its kind.
+#[tactic(auto, unfolding(crate::specs::Reading::kind_at))]
+fn read_kind(s: &[u8], at: usize, kind: u64) -> Read<Answer>
+    ensures { shown result ≡ kind_at s.now kind at }
+{
+    match kind {
+        0 => Ok((Answer::Waiting, at)),
+        5 => Ok((Answer::Succeeded, at)),
+        _ => {
+            let (n, next) = read_at_most(s, at, most_of(kind), Refusal::OutOfRange)?;
+            read_rest(s, next, kind, n)
         }
     }
 }
 
-// The most that the number after an answer's kind can be: an id or a time may be any.
-fn most_of(kind: u64) -> u64
-    ensures { result ≡ most_of kind }
+// The answer that starts at the place at, and the place after its last byte.
+#[tactic(auto, unfolding(crate::specs::Reading::answer_at))]
+pub fn answer_at(s: &[u8], at: usize) -> Result<(Answer, usize), Refusal>
+    ensures { shown result ≡ answer_at s.now at }
 {
-    if kind == 6 {
-        return 1;
-    }
-    if kind == 7 {
-        return 1;
-    }
-    if kind == 8 {
-        return 13;
-    }
-    u64::MAX
-}
-
-// An answer after its kind and the number n that follows it.
-fn read_rest(s: &[u8], at: usize, kind: u64, n: u64) -> AnswerRead
-    ensures { answer_shown result ≡ rest_at s.now kind n at }
-{
-    if kind == 1 {
-        return read_query(s, at, n);
-    }
-    if kind == 2 {
-        return AnswerRead::Answer(Answer::Timer(n), at);
-    }
-    if kind == 3 {
-        return read_attempt(s, at, n);
-    }
-    if kind == 4 {
-        return AnswerRead::Answer(Answer::Cancel(n), at);
-    }
-    if kind == 6 {
-        return AnswerRead::Answer(Answer::Failed(reason_of(n)), at);
-    }
-    if kind == 7 {
-        return AnswerRead::Answer(Answer::Full(table_of(n)), at);
-    }
-    AnswerRead::Answer(Answer::Taken(n), at)
-}
-
-// An answer after its kind.
-fn read_kind(s: &[u8], at: usize, kind: u64) -> AnswerRead
-    ensures { answer_shown result ≡ kind_at s.now kind at }
-{
-    if kind == 0 {
-        return AnswerRead::Answer(Answer::Waiting, at);
-    }
-    if kind == 5 {
-        return AnswerRead::Answer(Answer::Succeeded, at);
-    }
-    let r = read_at_most(s, at, most_of(kind), Refusal::OutOfRange);
-    match r {
-        Read::Refused(e) => AnswerRead::Refused(e),
-        Read::Number(n, next) => read_rest(s, next, kind, n),
-    }
-}
-
-// The answer that starts at the place at.
-pub fn answer_at(s: &[u8], at: usize) -> AnswerRead
-    ensures { answer_shown result ≡ answer_at s.now at }
-{
-    let r = read_at_most(s, at, 8, Refusal::OutOfRange);
-    match r {
-        Read::Refused(e) => AnswerRead::Refused(e),
-        Read::Number(kind, next) => read_kind(s, next, kind),
-    }
+    let (kind, next) = read_at_most(s, at, 8, Refusal::OutOfRange)?;
+    read_kind(s, next, kind)
 }
