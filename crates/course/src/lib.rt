@@ -15,18 +15,6 @@ pub enum Sort {
     Retry,
 }
 
-impl Sort {
-    // The name of its bar's style (chart::page::STYLES).
-    pub fn name(self) -> &'static str {
-        match self {
-            Sort::Query => "query",
-            Sort::Refresh => "refresh",
-            Sort::Attempt => "attempt",
-            Sort::Retry => "retry",
-        }
-    }
-}
-
 #[derive(Clone, Copy, PartialEq, Eq)]
 pub enum Fate {
     Open,
@@ -34,19 +22,6 @@ pub enum Fate {
     Failed,
     Succeeded,
     Cancelled,
-}
-
-impl Fate {
-    // Its word, which is its mark's name too (chart::page::SHAPES).
-    pub fn name(self) -> &'static str {
-        match self {
-            Fate::Open => "open",
-            Fate::Answered => "answered",
-            Fate::Failed => "failed",
-            Fate::Succeeded => "succeeded",
-            Fate::Cancelled => "cancelled",
-        }
-    }
 }
 
 // An event: its place in the tape, and its moment.

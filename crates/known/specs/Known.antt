@@ -1,12 +1,11 @@
 -- Document 01's starred examples, the resolution delay and the empty tape as one list: what the definitions give, beside what the document
 -- says.
-use Rattle.std.specs.Prelude.{ℕ, ◌+◌, ◌≡◌, cond, List, [], ◌∷◌, map, nat_eq}
+use Rattle.std.specs.Prelude.{ℕ, ◌+◌, ◌≡◌, cond, Some, List, [], ◌∷◌, map, nat_eq}
 use Rattle.deal.specs.Interleaving.{group_of, interleave}
 use Rattle.numbers.specs.Got.{Got, got, refused}
 use Rattle.numbers.specs.Numbers.{read_number, number_bytes}
 use Rattle.pacing.specs.Pacing.{factor_of, product_of}
 use Rattle.starting.specs.Starting.{resolution_met}
-use Rattle.starting.specs.declared.surveys.Moment.TheVariants.{At}
 use Rattle.replay.specs.Replay.{Run, replay_of}
 
 -- a reading as numbers: 0 with the value and the next place, or the refusal's number
@@ -38,7 +37,7 @@ preferring_six e = group_of e.rank (cond (nat_eq e.family 6) 0 1)
 
 -- 1 for a delay of 50,000,000 ns that is met so long after an answer at the moment t, else 0
 abbrev pub met : (t after : ℕ) → ℕ
-met t after = cond (resolution_met 50_000_000 (At t) (t + after)) 1 0
+met t after = cond (resolution_met 50_000_000 (Some t) (t + after)) 1 0
 
 -- a replay as numbers: its status, place and calls, and then the bytes of its answers
 abbrev pub replayed : Run → List ℕ

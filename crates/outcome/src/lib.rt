@@ -16,6 +16,16 @@ fn took(a: &Asked) -> Took {
     }
 }
 
+fn became(f: Fate) -> &'static str {
+    match f {
+        Fate::Open => "unanswered",
+        Fate::Answered => "answered",
+        Fate::Failed => "failed",
+        Fate::Succeeded => "succeeded",
+        Fate::Cancelled => "cancelled",
+    }
+}
+
 // Something that was asked for, what became of it, and after how long.
 #[derive(Clone, Copy)]
 struct Ended<'a> {
@@ -30,10 +40,11 @@ impl fmt::Display for Ended<'_> {
             answers: self.answers,
             place: a.place,
         };
-        match a.fate {
-            Fate::Open => write!(f, "{said}; unanswered"),
-            fate => write!(f, "{said}; {} after {} ms", fate.name(), took(a)),
+        write!(f, "{said}; {}", became(a.fate))?;
+        if !a.is_open() {
+            write!(f, " after {} ms", took(a))?;
         }
+        Ok(())
     }
 }
 

@@ -2,13 +2,34 @@
 use chart::markup::{Bar, Mark, Shortened, TextTag, Words};
 use chart::page::{Crown, line_of};
 use chart::scale::{Scale, column};
-use course::{Asked, Table};
+use course::{Asked, Fate, Sort, Table};
 use std::{fmt, io};
 use telling::piece::Took;
 use wording::reply::ReplyAt;
 
 // Signs of a label.
 const LABEL: usize = 59;
+
+// The style of a bar that goes forward in time.
+fn style(s: Sort) -> &'static str {
+    match s {
+        Sort::Query => "query",
+        Sort::Refresh => "refresh",
+        Sort::Attempt => "attempt",
+        Sort::Retry => "retry",
+    }
+}
+
+// The shape of the mark of how something ended.
+fn shape(f: Fate) -> &'static str {
+    match f {
+        Fate::Open => "open",
+        Fate::Answered => "answered",
+        Fate::Failed => "failed",
+        Fate::Succeeded => "succeeded",
+        Fate::Cancelled => "cancelled",
+    }
+}
 
 // The bar of a thing that was asked for, and the marks at its ends, on a tape with this last moment.
 #[derive(Clone, Copy)]
@@ -34,7 +55,7 @@ impl fmt::Display for Drawn<'_> {
             class: if end < a.from.moment {
                 "backward"
             } else {
-                a.sort.name()
+                style(a.sort)
             },
             from: x,
             until,
@@ -43,11 +64,15 @@ impl fmt::Display for Drawn<'_> {
         write!(f, "{bar}")?;
         // Beneath a mark the stroke where a bar begins would change the mark's shape.
         if x != until {
-            let shape = "begin";
-            write!(f, "{}", Mark { shape, x, y })?;
+            let asking = Mark {
+                shape: "begin",
+                x,
+                y,
+            };
+            write!(f, "{asking}")?;
         }
         let ending = Mark {
-            shape: a.fate.name(),
+            shape: shape(a.fate),
             x: until,
             y,
         };

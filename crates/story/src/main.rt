@@ -118,6 +118,7 @@ fn show_events(
     from: usize,
     r: Replayed,
 ) -> io::Result<()> {
+    let end = r.place;
     let first = first_moment(tape, from);
     let mut told = Told {
         course: Course::new(),
@@ -127,7 +128,7 @@ fn show_events(
     };
     let mut at = from;
     // No `for`: where the next event begins is known only when this one is read.
-    while at < r.place {
+    while at < end {
         let FrameRead::Frame(moment, b, next) = frame_at(tape, at) else {
             return Ok(());
         };
