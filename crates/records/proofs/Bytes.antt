@@ -1,15 +1,14 @@
 -- Comparing two byte strings, one byte a turn; the part of a room that a length cuts.
-use Prim.Native.Nat.{ℕ, suc, ◌+◌, ◌<◌, ◌≤◌, min}
+use Prim.Native.Nat.{ℕ, suc, min}
 use mathlib.Core.Path.{◌≡◌, refl, sym, ap, ◌∙◌}
 use mathlib.Core.Bool.{Bool, true, false, ◌&&◌}
 use mathlib.Core.List.{List, [], ◌∷◌}
-use native.Mathlib.Numerals.{add-one}
 use native.Mathlib.Omega.{arith}
 use native.Mathlib.Decide.{dec_lt}
 use lib.Dec.{eqb as nat_eq}
 use lib.Pointwise.{pointwise}
-use lib.ListN.{length, take, drop, get_or, drop_of_length-le}
-use lib.Seq.{drop-cons, take_all}
+use lib.ListN.{length, take}
+use lib.Seq.{take_all}
 use borrow.Author.Tests.{eq-eqb, eqb-true}
 use Rattle.records.specs.Names.{same_bytes}
 

@@ -1,5 +1,5 @@
 // Endpoints, and when two are the same: target, port, rank and ECH bytes.
-ghost use Rattle.std.specs.Prelude.{◌≡◌, ◌&&◌, nat_eq};
+ghost use Rattle.std.specs.Prelude.{◌≡◌};
 ghost use Rattle.records.specs.Numbers.{rank_number, target_number};
 ghost use Rattle.records.specs.Endpoints.{no_endpoint, same_numbers, same_sealed, same_head, same_hosts, same_echs, same_endpoint};
 

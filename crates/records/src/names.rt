@@ -129,10 +129,11 @@ pub fn same_name(a: Name, b: Name) -> bool
 fn undot(name: &[u8]) -> &[u8]
     ensures { result.now ≡ undotted name.now }
 {
-    if name.is_empty() {
+    let n = name.len();
+    if n == 0 {
         return name;
     }
-    let last = name.len() - 1;
+    let last = n - 1;
     if name[last] == b'.' {
         return &name[..last];
     }
