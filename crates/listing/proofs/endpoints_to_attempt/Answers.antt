@@ -34,32 +34,32 @@ pub overflow_add-at : goal.overflow_add-at
 overflow_add-at c =
     let f : length c.args.alts.list ≡ 4 = search rules in
     let g : length c.args.services.list ≡ 4 = search rules in
-    omega (arith, filled-room _ _ _ _ _ _ _ _ c.loop-k.invariant _ (omega (arith, c.tier_count-n.ensures)) c.tier_at-t.ensures f g)
+    omega (arith, filled-room _ _ _ _ _ _ _ _ c.loop-k.invariant _ (omega (arith, c.tier_count-n.ensures)) c.tier-t.ensures f g)
 
 pub offset_bounds-l-at : goal.offset_bounds-l-at
 offset_bounds-l-at c =
     let f : length c.args.alts.list ≡ 4 = search rules in
     let g : length c.args.services.list ≡ 4 = search rules in
-    omega (arith, filled-room _ _ _ _ _ _ _ _ c.loop-k.invariant _ (omega (arith, c.tier_count-n.ensures)) c.tier_at-t.ensures f g)
+    omega (arith, filled-room _ _ _ _ _ _ _ _ c.loop-k.invariant _ (omega (arith, c.tier_count-n.ensures)) c.tier-t.ensures f g)
 
 pub slice_bounds-copy_from_slice-end : goal.slice_bounds-copy_from_slice-end
 slice_bounds-copy_from_slice-end c =
     let f : length c.args.alts.list ≡ 4 = search rules in
     let g : length c.args.services.list ≡ 4 = search rules in
-    let r = filled-room _ _ _ _ _ _ _ _ c.loop-k.invariant _ (omega (arith, c.tier_count-n.ensures)) c.tier_at-t.ensures f g in
+    let r = filled-room _ _ _ _ _ _ _ _ c.loop-k.invariant _ (omega (arith, c.tier_count-n.ensures)) c.tier-t.ensures f g in
     omega arith
 
 pub shared_ref_as_front-copy_from_slice : goal.shared_ref_as_front-copy_from_slice
 shared_ref_as_front-copy_from_slice c =
     let f : length c.args.alts.list ≡ 4 = search rules in
     let g : length c.args.services.list ≡ 4 = search rules in
-    filled-few _ _ _ _ _ _ _ _ c.loop-k.invariant _ (omega (arith, c.tier_count-n.ensures)) c.tier_at-t.ensures f g
+    filled-few _ _ _ _ _ _ _ _ c.loop-k.invariant _ (omega (arith, c.tier_count-n.ensures)) c.tier-t.ensures f g
 
 pub loop-k-preserved : goal.loop-k-preserved
 loop-k-preserved c =
     let f : length c.args.alts.list ≡ 4 = search rules in
     let g : length c.args.services.list ≡ 4 = search rules in
-    filled-next _ _ _ _ _ _ _ _ c.loop-k.invariant _ (omega (arith, c.tier_count-n.ensures)) c.tier_at-t.ensures f g _ _ (omega arith) c.copy_from_slice.ensures.after
+    filled-next _ _ _ _ _ _ _ _ c.loop-k.invariant _ (omega (arith, c.tier_count-n.ensures)) c.tier-t.ensures f g _ _ (omega arith) c.copy_from_slice.ensures.after
 
 pub returns : goal.returns
 returns c = filled-end _ _ _ _ _ _ _ _ c.loop-k.invariant (omega (arith, c.tier_count-n.ensures)) ∙ by_bytes c
