@@ -1,5 +1,5 @@
 -- `listing::runs::dealt_order` meets its contract: the groups are sound, so they are dealt.
-use mathlib.Core.Path.{◌≡◌, sym, ◌∙◌}
+use mathlib.Core.Path.{sym, ◌∙◌}
 use native.Mathlib.Omega.{arith}
 use lib.ListN.{length}
 use lib.Seq.{length-take-le, take_at}
