@@ -17,13 +17,10 @@ use Rattle.listing.specs.Held.{Same}
 use Rattle.records.specs.Lists.{each}
 use Rattle.records.specs.Rules.{no_alt}
 use Rattle.listing.specs.Items.{run_items}
-use Rattle.listing.specs.Listing.{combined, quic, nothing, host_runs, tier_items, alt_runs, alts_from, origin_runs, last_runs}
+use Rattle.listing.specs.Listing.{combined, quic, host_runs, tier_items, alt_runs, alts_from, origin_runs, last_runs}
 use Rattle.listing.specs.Room.{ranked, host_runs_if, both_runs, at_ranks, alt_runs_at}
 use Rattle.records.specs.declared.endpoints.Rank.{Rank}
 use Rattle.records.specs.declared.names.EchPlace.{EchPlace}
-use Rattle.records.specs.declared.names.EchPlace.TheVariants.{Without}
-use Rattle.records.specs.declared.endpoints.Rank.TheVariants as rank
-use Rattle.listing.specs.declared.runs.HostRuns.{HostRuns}
 use Rattle.listing.specs.declared.hosts.HostTargets.{HostTargets}
 use Rattle.listing.specs.declared.versions.Ranks.{Ranks}
 use Rattle.listing.specs.declared.runs.Run.{Run}

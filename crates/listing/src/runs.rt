@@ -188,12 +188,13 @@ fn tier_of(runs: Runs, prefer6: bool) -> Undealt
 }
 
 // The positions of a tier in dealt order.
-fn dealt_order(groups: [u8; 80], n: usize) -> DealtOrder
-    requires { (n ≤ 80) × Grouped (take n groups) }
-    ensures { take n result.list ≡ order (take n groups) }
+fn dealt_order(groups: &[u8]) -> DealtOrder
+    requires { (length groups.now ≤ 80) × Grouped groups.now }
+    ensures { take (length groups.now) result.list ≡ order groups.now }
 {
     let mut out = [0u16; 80];
-    deal::deal(&groups[..n], &mut out[..n]);
+    let n = groups.len();
+    deal::deal(groups, &mut out[..n]);
     DealtOrder { list: out }
 }
 
@@ -209,9 +210,9 @@ pub fn no_tier() -> Tier
 }
 
 // The references at those positions, one after the other.
-fn gathered(t: Undealt, o: DealtOrder) -> Tier
-    requires { (t.count ≤ 80) × ((k : ℕ) → k < t.count → get_or o.list k 0 < 80) }
-    ensures { result ≡ tiered (map (λ i. get_or t.list i no_item) (take t.count o.list)) }
+fn gathered(t: &Undealt, o: &DealtOrder) -> Tier
+    requires { (length o.now.list ≡ 80) × (t.now.count ≤ 80) × ((k : ℕ) → k < t.now.count → get_or o.now.list k 0 < 80) }
+    ensures { result ≡ tiered (map (λ i. get_or t.now.list i no_item) (take t.now.count o.now.list)) }
 {
     let n = t.count;
     let dealt = &o.list[..n];
@@ -230,10 +231,9 @@ fn dealt_tier(runs: Runs, prefer6: bool) -> Tier
     ensures { result ≡ tiered (interleave (group_of prefer6) (tier_items runs.list)) }
 {
     let t = tier_of(runs, prefer6);
-    let n = t.count;
-    let g = t.groups;
-    let o = dealt_order(g, n);
-    gathered(t, o)
+    let groups = &t.groups[..t.count];
+    let o = dealt_order(groups);
+    gathered(&t, &o)
 }
 
 impl Sources {

@@ -4,4 +4,4 @@ use Rattle.listing.proofs.Whole.{Filled}
 use Rattle.listing.proofs.endpoints_to_attempt.Given as goal
 
 abbrev pub invariant-loop-k : goal.invariant-loop-k
-invariant-loop-k l = Filled l.rules l.alts l.queries l.services (same_class l.same) l.k l.at l.l.list
+invariant-loop-k l = Filled l.from.0 l.alts l.from.1.0 l.services (same_class l.from.1.1.0) l.k l.at l.l.list

@@ -1,12 +1,10 @@
-use mathlib.Core.Path.{◌≡◌, ap, ◌∙◌}
-use lib.ListN.{length, get_or, take}
+use mathlib.Core.Path.{◌≡◌, ◌∙◌}
+use lib.ListN.{get_or, take}
 use native.Mathlib.Omega.{arith}
-use Rattle.std.proofs.lemmas.List.{take_min}
 use Rattle.records.specs.Queries.{no_query}
 use Rattle.records.specs.Classes.{same_class}
 use Rattle.listing.specs.Held.{is_held, first_held, held_at}
 use Rattle.listing.proofs.Lookup.{held_more, held-here, held-end, not-for, for-named, held-all}
-use borrow.Author.Rules.{rules}
 use Rattle.listing.proofs.sources.Sources.held_at.Goals as goal
 use Rattle.listing.proofs.sources.Sources.held_at.Goals.{else-is_for, then-is_for+else-same_class}
 
