@@ -186,7 +186,8 @@ fn found_query(w: Wanted) -> Found
     }
 }
 
-// The next retry, and the next endpoint, where they are looked for.
+// The next retry, and the next endpoint, where they are looked for. The parts go by value here and below: rules 4.14 and 6.1 rest on
+// these calls, whose promises speak of each part (docs/RULES.md); `found_on` takes the machine.
 pub fn retry_next(on: bool, attempts: Attempts, retries: Retries, alike: Alike) -> Next
     ensures { result ≡ if_looked on (next_retry (alike_endpoints alike.hosts alike.echs) attempts retries) }
 {
