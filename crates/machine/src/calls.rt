@@ -8,7 +8,7 @@ ghost use Rattle.machine.specs.Output.{found_by, granted};
 ghost use Rattle.machine.specs.Steps.{survey_of, output_step, change_of, taken_of, input_step};
 
 use super::grant::{Output, Turn, grant_of, wish_attempt, wish_query};
-use super::wish::{Found, Look, Wish, found_of, look_of, looks, wish_of};
+use super::wish::{Found, Look, Wish, found_on, look_of, looks, wish_of};
 use after::{
     TargetEchs, TargetNames, answers_fed, attempts_called, attempts_fed, echs_fed, ids_called,
     names_fed, queries_called, queries_fed, retries_fed, services_fed,
@@ -69,18 +69,7 @@ fn found_in(m: &Machine, look: Look, asks: Asks) -> Found
     if !looks(look) {
         return Found::Nothing;
     }
-    found_of(
-        look,
-        m.rules,
-        m.alts,
-        m.queries,
-        m.answers,
-        m.services,
-        m.attempts,
-        m.retries,
-        asks,
-        alike_of(m.names, m.echs),
-    )
+    found_on(m, &alike_of(m.names, m.echs), look, asks)
 }
 
 // With so many alternative services and retries.

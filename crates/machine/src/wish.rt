@@ -14,6 +14,7 @@ use records::rules::{Alts, Mode, Rules, Timing};
 use records::services::Services;
 use starting::pace::{attempt_left, may_start, resolution_left};
 use starting::surveys::{Asks, Hinted, Tries};
+use state::Machine;
 use state::attempts::{Attempts, Retries};
 use upcoming::alike::Alike;
 use upcoming::next::{Next, next_endpoint, next_retry};
@@ -185,7 +186,8 @@ fn found_query(w: Wanted) -> Found
     }
 }
 
-// The next retry, and the next endpoint, where they are looked for.
+// The next retry, and the next endpoint, where they are looked for. The parts go by value here and below: rules 4.14 and 6.1 rest on
+// these calls, whose promises speak of each part (docs/RULES.md); `found_on` takes the machine.
 pub fn retry_next(on: bool, attempts: Attempts, retries: Retries, alike: Alike) -> Next
     ensures { result ≡ if_looked on (next_retry (alike_endpoints alike.hosts alike.echs) attempts retries) }
 {
@@ -290,6 +292,20 @@ pub fn found_of(
         services,
         asks,
         alike.names,
+    )
+}
+
+// The same on a machine that is lent. Where nothing is looked for nothing is found.
+#[tactic(auto, using(crate::proofs::Looking::looking))]
+pub fn found_on(m: &Machine, alike: &Alike, look: Look, asks: Asks) -> Found
+    ensures { result ≡ found_by (same_class alike.now.names) (alike_endpoints alike.now.hosts alike.now.echs) look asks.asked m.now.rules m.now.alts m.now.queries m.now.answers m.now.services m.now.attempts m.now.retries }
+{
+    if !looks(look) {
+        return Found::Nothing;
+    }
+    found_of(
+        look, m.rules, m.alts, m.queries, m.answers, m.services, m.attempts, m.retries, asks,
+        *alike,
     )
 }
 

@@ -9,8 +9,8 @@ use native.Mathlib.Omega.{arith}
 use native.Mathlib.Numerals.{add-one}
 use native.Mathlib.Decide.{dec_lt}
 use lib.Dec.{ltb as nat_lt}
-use lib.ListN.{length, drop, get_or, get_or-append, drop_of_length-le}
-use lib.Seq.{get_or-append-add, drop-cons}
+use lib.ListN.{length, take, drop, get_or, get_or-append, drop_of_length-le}
+use lib.Seq.{take_all, get_or-append-add, drop-cons}
 use Rattle.deal.specs.Interleaving.{upto}
 use Rattle.deal.proofs.Laws.{length-upto}
 use Rattle.records.specs.Lists.{some?, each, first_of}
@@ -131,28 +131,33 @@ module _ (alike : Alike) (r : Rules) (x : Alts) (q : Queries) (d : Answers) (s :
   by-tier = sym (items-first (items_to_attempt r x q s same) ∙ (ap (first_next (item_new alike r x d s a)) (tier-by-tier r x q s same) ∙ next-each (item_new alike r x d s a) (tier_at r x q s same) (upto (tier_count r s))))
 
   -- how far the code has come: the tiers from k on have what the listing has
-  unfoldable pub tiers_from : ℕ → Next
-  tiers_from k = first_next tier_new (drop k (upto (tier_count r s)))
+  unfoldable pub tiers_from : (n k : ℕ) → Next
+  tiers_from n k = first_next tier_new (drop k (take n (upto n)))
 
-  pub tiers_all : tiers_from 0 ≡ next_endpoint alike r x q d s a same
+  pub tiers-all : (n : ℕ) → n ≡ tier_count r s → tiers_from n 0 ≡ next_endpoint alike r x q d s a same
   unfolding tiers_from
-  tiers_all = by-tier
+  tiers-all n e = ap (first_next tier_new) (take_all n (upto n) (omega (arith, length-upto n))) ∙ (ap (λ m. first_next tier_new (upto m)) e ∙ by-tier)
 
-  module _ (k : ℕ) (w : Next) (h : k < tier_count r s) (e : w ≡ tier_new k) where
-    at : w ≡ tier_new (get_or (upto (tier_count r s)) k 0)
-    at = e ∙ ap tier_new (sym (get_or-upto (tier_count r s) k h))
+  module _ (n k : ℕ) where
+    whole : take n (upto n) ≡ upto n
+    whole = take_all n (upto n) (omega (arith, length-upto n))
 
-    pub tiers_here : is_some w ≡ true → tiers_from k ≡ w
+    from : (j : ℕ) → tiers_from n j ≡ first_next tier_new (drop j (upto n))
     unfolding tiers_from
-    tiers_here g = next_here tier_new 0 (upto (tier_count r s)) k w (omega (arith, length-upto (tier_count r s))) at g
+    from j = ap (λ l. first_next tier_new (drop j l)) whole
 
-    pub tiers_more : is_some w ≡ false → tiers_from k ≡ tiers_from (k + 1)
-    unfolding tiers_from
-    tiers_more g = next_more tier_new 0 (upto (tier_count r s)) k w (omega (arith, length-upto (tier_count r s))) at g
+    module _ (w : Next) (h : k < n) (e : w ≡ tier_new k) where
+      at : w ≡ tier_new (get_or (upto n) k 0)
+      at = e ∙ ap tier_new (sym (get_or-upto n k h))
 
-  pub tiers_past : (k : ℕ) → tier_count r s ≤ k → tiers_from k ≡ None
-  unfolding tiers_from
-  tiers_past k h = next_past tier_new (upto (tier_count r s)) k (omega (arith, length-upto (tier_count r s)))
+      pub tiers_here : is_some w ≡ true → tiers_from n k ≡ w
+      tiers_here g = from k ∙ next_here tier_new 0 (upto n) k w (omega (arith, length-upto n)) at g
+
+      pub tiers_more : is_some w ≡ false → tiers_from n k ≡ tiers_from n (k + 1)
+      tiers_more g = from k ∙ (next_more tier_new 0 (upto n) k w (omega (arith, length-upto n)) at g ∙ sym (from (k + 1)))
+
+    pub tiers_past : n ≤ k → tiers_from n k ≡ None
+    tiers_past h = from k ∙ next_past tier_new (upto n) k (omega (arith, length-upto n))
 
 -- there are at most five tiers
 pub five-tiers : (r : Rules) (s : Services) → length s.list ≡ 4 → tier_count r s ≤ 5

@@ -29,47 +29,37 @@ pub struct Alike {
 fn host_class(t: SameHosts, place: u8) -> u8
     ensures { result ≡ host_class t place }
 {
-    let p = place as usize;
-    if p < 14 {
-        return t.list[p];
+    match t.list.get(place as usize) {
+        Some(class) => *class,
+        None => 14,
     }
-    14
 }
 
 #[tactic(auto, unfolding(crate::specs::Alike::ech_class))]
 fn ech_class(t: SameEchs, place: u8) -> u8
     ensures { result ≡ ech_class t place }
 {
-    let p = place as usize;
-    if p < 40 {
-        return t.list[p];
+    match t.list.get(place as usize) {
+        Some(class) => *class,
+        None => 40,
     }
-    40
 }
 
 fn alike_hosts(t: SameHosts, a: Target, b: Target) -> bool
     ensures { result ≡ alike_hosts t a b }
 {
-    match a {
-        Target::V4(_) => true,
-        Target::V6(_, _, _) => true,
-        Target::Named(p) => match b {
-            Target::V4(_) => true,
-            Target::V6(_, _, _) => true,
-            Target::Named(q) => host_class(t, p) == host_class(t, q),
-        },
+    match (a, b) {
+        (Target::Named(p), Target::Named(q)) => host_class(t, p) == host_class(t, q),
+        _ => true,
     }
 }
 
 fn alike_echs(t: SameEchs, a: EchPlace, b: EchPlace) -> bool
     ensures { result ≡ alike_echs t a b }
 {
-    match a {
-        EchPlace::Without => true,
-        EchPlace::At(p) => match b {
-            EchPlace::Without => true,
-            EchPlace::At(q) => ech_class(t, p) == ech_class(t, q),
-        },
+    match (a, b) {
+        (EchPlace::At(p), EchPlace::At(q)) => ech_class(t, p) == ech_class(t, q),
+        _ => true,
     }
 }
 
@@ -78,15 +68,5 @@ fn alike_echs(t: SameEchs, a: EchPlace, b: EchPlace) -> bool
 pub fn alike_endpoints(hosts: SameHosts, echs: SameEchs, a: Endpoint, b: Endpoint) -> bool
     ensures { result ≡ alike_endpoints hosts echs a b }
 {
-    if !same_head(a, b) {
-        return false;
-    }
-    let t = a.target;
-    let u = b.target;
-    if !alike_hosts(hosts, t, u) {
-        return false;
-    }
-    let e = a.ech;
-    let f = b.ech;
-    alike_echs(echs, e, f)
+    same_head(a, b) && alike_hosts(hosts, a.target, b.target) && alike_echs(echs, a.ech, b.ech)
 }

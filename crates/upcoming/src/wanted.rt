@@ -26,10 +26,7 @@ pub struct Families {
 fn is_asked(same: SameNames, k: Kind, place: u8, kind: Kind, name: u8) -> bool
     ensures { result ≡ is_asked (same_class same) k place kind name }
 {
-    if kind_number(kind) != kind_number(k) {
-        return false;
-    }
-    same_class(same, name, place)
+    kind_number(kind) == kind_number(k) && same_class(same, name, place)
 }
 
 fn asked_for(queries: &Queries, same: SameNames, place: u8) -> Families
@@ -47,10 +44,7 @@ fn asked_for(queries: &Queries, same: SameNames, place: u8) -> Families
 fn is_missing(allowed: bool, was: bool) -> bool
     ensures { result ≡ is_missing allowed was }
 {
-    if allowed {
-        return !was;
-    }
-    false
+    allowed && !was
 }
 
 // The first address type that is allowed and was not asked for: AAAA before A, whatever is preferred.
@@ -79,25 +73,21 @@ fn place_wanted(p: Preference, queries: &Queries, same: SameNames, place: u8) ->
 pub fn origin_wanted(rules: Rules, k: Kinds) -> Wanted
     ensures { result ≡ origin_wanted rules k }
 {
-    let h = rules.host;
-    let m = rules.mode;
-    let p = rules.preference;
-    if !is_named(h) {
+    if !is_named(rules.host) {
         return None;
     }
     if !k.https {
         return Some((Kind::Https, https_place(rules)));
     }
-    match m {
+    match rules.mode {
         Mode::Ip => {
             let asked = Families {
                 six: k.aaaa,
                 four: k.a,
             };
-            missing(p, asked, 0)
+            missing(rules.preference, asked, 0)
         }
-        Mode::Name => None,
-        Mode::NameWithHttpsRr => None,
+        Mode::Name | Mode::NameWithHttpsRr => None,
     }
 }
 
@@ -112,8 +102,7 @@ fn target_wanted(
 ) -> Wanted
     ensures { result ≡ target_wanted p queries.now (same_class same) sealed s }
 {
-    let e = s.ech;
-    if is_usable(sealed, e) {
+    if is_usable(sealed, s.ech) {
         return place_wanted(p, queries, same, s.name);
     }
     None
@@ -196,17 +185,15 @@ pub fn next_query(
 ) -> Wanted
     ensures { result ≡ wanted_by asks.asked rules alts queries services (same_class same) }
 {
-    let m = rules.mode;
-    let k = asks.asked;
-    match m {
+    match rules.mode {
         Mode::Ip => {
-            let o = origin_wanted(rules, k);
+            let o = origin_wanted(rules, asks.asked);
             if o.is_some() {
                 return o;
             }
             others_wanted(rules, alts, &queries, services, same)
         }
         Mode::Name => None,
-        Mode::NameWithHttpsRr => origin_wanted(rules, k),
+        Mode::NameWithHttpsRr => origin_wanted(rules, asks.asked),
     }
 }

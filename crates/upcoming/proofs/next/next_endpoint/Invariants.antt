@@ -7,4 +7,4 @@ use Rattle.upcoming.proofs.Nexts.{tiers_from}
 use Rattle.upcoming.proofs.next.next_endpoint.Given as goal
 
 abbrev pub invariant-loop-k : goal.invariant-loop-k
-invariant-loop-k l = tiers_from (alike_endpoints l.hosts l.echs) l.rules l.alts l.queries l.answers l.services l.attempts (same_class l.same) l.k ≡ next_endpoint (alike_endpoints l.hosts l.echs) l.rules l.alts l.queries l.answers l.services l.attempts (same_class l.same)
+invariant-loop-k l = tiers_from (alike_endpoints l.hosts l.echs) l.rules l.alts l.queries l.answers l.services l.attempts (same_class l.same) l.n l.k ≡ next_endpoint (alike_endpoints l.hosts l.echs) l.rules l.alts l.queries l.answers l.services l.attempts (same_class l.same)
