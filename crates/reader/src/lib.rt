@@ -45,9 +45,10 @@ pub enum Answer {
     Taken(u64),
 }
 
-// A value with the place after its last byte.
+// A value with the place after its last byte. Bytes and a place stay two parameters, as in `numbers`: every promise speaks of both.
 type Read<T> = Result<(T, usize), Refusal>;
 
+// The case of each number (rules B.9 and B.11), which its reader has found in range: no number is refused here, so no `TryFrom`.
 #[tactic(auto, unfolding(crate::specs::Reading::kind_of))]
 fn kind_of(n: u64) -> Kind
     ensures { result ≡ kind_of n }
