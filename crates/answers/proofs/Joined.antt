@@ -1,6 +1,6 @@
 -- Fields one after the other, as the writer puts them.
 --     numbers_few              how many bytes some numbers take at most
---     numbers-next, -none      numbers in a loop: the first of those that are left, none left
+--     numbers-next, numbers_none      numbers in a loop: the first of those that are left, none left
 --     store_next and the like  the same of a loop that stores them
 --     parts, parts-put         numbers, bytes, numbers and bytes are the fields that they are; four writes are one
 --     parts_end and the like   the same as four calls answer it
@@ -156,5 +156,5 @@ module _ (out : List ℕ) (at : ℕ) (head body tail ech : List ℕ) (fits : at 
 
 -- what was put, by another name of its bytes
 pub put_as : (out : List ℕ) (at : ℕ) {xs ys : List ℕ} {w : Placed} {left : List ℕ} → xs ≡ ys
-    → (w ≡ put_answer out at xs) × (left ≡ put_bytes out at xs) → (w ≡ put_answer out at ys) × (left ≡ put_bytes out at ys)
-put_as out at e p = (p.0 ∙ ap (put_answer out at) e, p.1 ∙ ap (put_bytes out at) e)
+    → w ≡ put_answer out at xs → left ≡ put_bytes out at xs → record { answer : w ≡ put_answer out at ys; bytes : left ≡ put_bytes out at ys }
+put_as out at e a b = record { answer = a ∙ ap (put_answer out at) e; bytes = b ∙ ap (put_bytes out at) e }

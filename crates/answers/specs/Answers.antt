@@ -1,4 +1,4 @@
--- Answers in bytes (document 01, "Numbers and bodies": what a tape is answered): what each says, its fields in order, their bytes.
+-- Answers in bytes (rules B.9 to B.11): what each says, its fields in order, their bytes.
 use Rattle.std.specs.Prelude.{ℕ, zero, suc, ◌+◌, ◌/◌, ◌%◌, Bool, true, false, List, [], ◌∷◌, ◌++◌, length}
 use Rattle.std.proofs.Math.Option.{Option, none, some}
 use Rattle.numbers.specs.Numbers.{number_bytes}

@@ -1,4 +1,5 @@
-// Answers written into a lent buffer: all of one, or nothing where it does not fit.
+// Answers written into a lent buffer: all of one, or nothing where it does not fit. Buffer and place stay two parameters, as in
+// `numbers::put`: every promise speaks of both.
 ghost use Rattle.std.specs.Prelude.{◌≡◌, ◌∷◌, [], ◌++◌, ◌+◌, ◌≤◌, length};
 ghost use Rattle.numbers.specs.Put.{placed, put_answer, put_bytes};
 ghost use Rattle.numbers.specs.Shown.{wrote_shown};

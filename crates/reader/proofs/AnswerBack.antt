@@ -8,9 +8,10 @@ use mathlib.Core.List.{List, [], ◌∷◌, ◌++◌, append_assoc}
 use Prim.Native.Nat.{ℕ, ◌+◌, ◌^◌, ◌≤◌, ◌<◌}
 use native.Mathlib.Omega.{arith}
 use lib.Dec.{eqb as nat_eq}
+use borrow.Author.Tests.{ne_eqb}
 use lib.ListN.{length, take, drop}
 use lib.Seq.{sets-eq, length-sets, length-take-le, drop-append_seam}
-use Rattle.numbers.specs.Got.{got}
+use Rattle.numbers.specs.Got.{got, and_then}
 use Rattle.numbers.specs.Numbers.{number_bytes}
 use Rattle.numbers.specs.Put.{put_bytes}
 use Rattle.numbers.specs.Refusals.{out_of_range}
@@ -24,11 +25,10 @@ use Rattle.machine.specs.declared.grant.Table.{Table}
 use Rattle.machine.specs.declared.grant.Table.TheVariants as table
 use Rattle.parts.proofs.Back.{There, there-all}
 use Rattle.answers.specs.Answers.{Said, waiting, query, timer, attempt, cancel, succeeded, failed, full, input, Field, number, raw, bit, reason_number, table_number, fields, joined, answer_bytes}
-use Rattle.reader.specs.Reading.{reason_of, table_of, attempt_at, most_of, rest_at, kind_at, answer_at}
+use Rattle.reader.specs.Reading.{reason_of, table_of, chosen_at, attempt_at, most_of, rest_at, kind_at, answer_at}
 use Rattle.reader.specs.Saying.{said_in, Fits}
 use Rattle.reader.specs.declared.Answer.{Answer}
 use Rattle.reader.specs.declared.Answer.TheVariants.{Waiting, Timer, Attempt, Cancel, Succeeded, Failed, Full, Taken}
-use Rattle.reader.proofs.Branches.{kind-waiting, kind-succeeded, kind-more, rest-query, rest-timer, rest-attempt, rest-cancel, rest-failed, rest-full, rest-taken}
 use Rattle.reader.proofs.Back.{Back, number-after, number-ends, number-reads, query-back, endpoint_fields, endpoint-back, bit-back, bit-few, reason-back, table-back}
 
 pub attempt-back : (s : List ℕ) (p id : ℕ) (retry : Bool) (e : Shown) → Fits (attempt id retry e) → There s p (joined (number (bit retry) ∷ endpoint_fields e))
@@ -53,6 +53,11 @@ table-few : (t : Table) → table_number t ≤ 1
 table-few table.Queries = omega arith
 table-few table.Attempts = omega arith
 
+-- a kind that is neither 0 nor 5 has a number after it
+more : (s : List ℕ) (kind at : ℕ) → (kind ≡ 0 → ⊥) → (kind ≡ 5 → ⊥) → and_then (chosen_at s (most_of kind) at) (rest_at s kind) ≡ kind_at s kind at
+unfolding kind_at
+more s kind at n m = simp (ne_eqb kind 0 n, ne_eqb kind 5 m)
+
 module _ (s : List ℕ) (p : ℕ) where
   -- an answer that is its kind alone
   alone : {a : Said} (k : ℕ) (v : Answer) → There s p (joined (number k ∷ [])) → k ≤ 8 → got v (p + length (number_bytes k)) ≡ kind_at s k (p + length (number_bytes k)) → said_in s v ≡ a
@@ -76,7 +81,7 @@ module _ (s : List ℕ) (p : ℕ) where
       record {
         value = b.value;
         reads = ap (got b.value) (sym end) ∙ b.reads ∙ went_on (rest_at s k) n p2 (number-reads s p1 n fs h1 (most_of k) out_of_range l m)
-            ∙ kind-more s k p1 not0 not5
+            ∙ more s k p1 not0 not5
             ∙ went_on (kind_at s) k p1 (number-reads s p k (number n ∷ fs) h 8 out_of_range few (omega arith));
         right = b.right;
       }
@@ -87,40 +92,40 @@ module _ (s : List ℕ) (p : ℕ) where
   last k n v q r e = let z : q + 0 ≡ q = omega arith in record { value = v; reads = ap (got v) z ∙ r; right = e }
 
   fields_back : (a : Said) → Fits a → There s p (joined (fields a)) → Back s p (fields a) (answer_at s p) (λ v. said_in s v ≡ a)
-  unfolding most_of
-  fields_back waiting ok h = alone 0 Waiting h (omega arith) (kind-waiting s 0 _ refl) refl
+  unfolding most_of rest_at kind_at
+  fields_back waiting ok h = alone 0 Waiting h (omega arith) refl refl
   fields_back (query id kind stale name) ok h =
       let fs = number (kind_number kind) ∷ number (bit stale) ∷ number (length name) ∷ raw name ∷ [] in
       let q = p + length (number_bytes 1) + length (number_bytes id) in
       let h1 = number-after s p 1 (number id ∷ fs) h in
       let b = query-back s q id kind stale name ok.1 (number-after s (p + length (number_bytes 1)) id fs h1) in
       after 1 id fs h (omega arith) (λ z. omega arith) (λ z. omega arith) (let l = ok.0 in omega arith) (omega arith)
-      (record { value = b.value; reads = b.reads ∙ rest-query s 1 id q refl; right = ap (said_in s) b.right.1 ∙ ap (query id kind stale) b.right.2 })
+      (record { value = b.value; reads = b.reads; right = ap (said_in s) b.right.1 ∙ ap (query id kind stale) b.right.2 })
   fields_back (timer ns) ok h =
       after 2 ns [] h (omega arith) (λ z. omega arith) (λ z. omega arith) (omega arith) (omega arith)
-      (last 2 ns (Timer ns) _ (rest-timer s 2 ns _ (λ z. omega arith) refl) refl)
+      (last 2 ns (Timer ns) _ refl refl)
   fields_back (attempt id retry e) ok h =
       let fs = number (bit retry) ∷ endpoint_fields e in
       let q = p + length (number_bytes 3) + length (number_bytes id) in
       let h1 = number-after s p 3 (number id ∷ fs) h in
       let b = attempt-back s q id retry e ok (number-after s (p + length (number_bytes 3)) id fs h1) in
       after 3 id fs h (omega arith) (λ z. omega arith) (λ z. omega arith) (let l = ok.0 in omega arith) (omega arith)
-      (record { value = b.value; reads = b.reads ∙ rest-attempt s 3 id q (λ z. omega arith) (λ z. omega arith) refl; right = b.right })
+      b
   fields_back (cancel id) ok h =
       after 4 id [] h (omega arith) (λ z. omega arith) (λ z. omega arith) (omega arith) (omega arith)
-      (last 4 id (Cancel id) _ (rest-cancel s 4 id _ (λ z. omega arith) (λ z. omega arith) (λ z. omega arith) refl) refl)
-  fields_back succeeded ok h = alone 5 Succeeded h (omega arith) (kind-succeeded s 5 _ (λ z. omega arith) refl) refl
+      (last 4 id (Cancel id) _ refl refl)
+  fields_back succeeded ok h = alone 5 Succeeded h (omega arith) refl refl
   fields_back (failed r) ok h =
       let n = reason_number r in
       after 6 n [] h (omega arith) (λ z. omega arith) (λ z. omega arith) (reason-few r) (omega arith)
-      (last 6 n (Failed (reason_of n)) _ (rest-failed s 6 n _ (λ z. omega arith) (λ z. omega arith) (λ z. omega arith) (λ z. omega arith) refl) (ap failed (reason-back r)))
+      (last 6 n (Failed (reason_of n)) _ refl (ap failed (reason-back r)))
   fields_back (full t) ok h =
       let n = table_number t in
       after 7 n [] h (omega arith) (λ z. omega arith) (λ z. omega arith) (table-few t) (omega arith)
-      (last 7 n (Full (table_of n)) _ (rest-full s 7 n _ (λ z. omega arith) (λ z. omega arith) (λ z. omega arith) (λ z. omega arith) (λ z. omega arith) refl) (ap full (table-back t)))
+      (last 7 n (Full (table_of n)) _ refl (ap full (table-back t)))
   fields_back (input n) ok h =
       after 8 n [] h (omega arith) (λ z. omega arith) (λ z. omega arith) (omega arith) (omega arith)
-      (last 8 n (Taken n) _ (rest-taken s 8 n _ (λ z. omega arith) (λ z. omega arith) (λ z. omega arith) (λ z. omega arith) (λ z. omega arith) (λ z. omega arith)) refl)
+      (last 8 n (Taken n) _ refl refl)
 
 -- an answer as it was read, with what it says
 pub record Read (s : List ℕ) (p end : ℕ) (a : Said) : Type 0 where

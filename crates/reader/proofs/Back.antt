@@ -11,7 +11,8 @@ use Prim.Native.Nat.{ℕ, ◌+◌, ◌-◌, ◌/◌, ◌%◌, ◌^◌, ◌≤◌
 use native.Mathlib.Omega.{arith}
 use lib.Dec.{eqb as nat_eq}
 use lib.ListN.{length, length-append}
-use Rattle.numbers.specs.Got.{Got, got}
+use borrow.Author.Tests.{ne_eqb}
+use Rattle.numbers.specs.Got.{Got, got, and_then}
 use Rattle.numbers.specs.Fields.{at_most, bytes_at, span_bytes}
 use Rattle.numbers.specs.Numbers.{read_number, number_bytes}
 use Rattle.numbers.specs.Refusals.{out_of_range, too_many}
@@ -37,7 +38,6 @@ use Rattle.reader.specs.declared.TargetSpan.TheVariants.{V4, V6, Named}
 use Rattle.std.specs.Prelude.{Some, None}
 use Rattle.reader.specs.declared.EndpointSpan.{EndpointSpan}
 use Rattle.reader.specs.declared.Answer.TheVariants.{Query}
-use Rattle.reader.proofs.Branches.{by-four, by-six, by-host, by-none, by-sealed}
 
 -- each case from its number
 
@@ -238,6 +238,11 @@ module _ (s : List ℕ) (p : ℕ) (fs gs : List Field) (t : There s p (joined (f
   fields-end : p + length (joined fs) + length (joined gs) ≡ p + length (joined (fs ++ gs))
   fields-end = omega (arith, ap length (fields-joined fs gs), length-append (joined fs) (joined gs))
 
+-- a number that is not 0 says that bytes follow
+sealed-some : (s : List ℕ) (n at : ℕ) → (n ≡ 0 → ⊥) → and_then (bytes_at s (n - 1) at) (λ b end. got (Some b) end) ≡ sealed_by s n at
+unfolding sealed_by
+sealed-some s n at h = simp (ne_eqb n 0 h)
+
 module _ (s : List ℕ) (p : ℕ) where
   -- a target after its case
   cased : {t : ShownTarget} (k : ℕ) (fs : List Field) (h : There s p (joined (number k ∷ fs))) → k ≤ 2
@@ -252,29 +257,30 @@ module _ (s : List ℕ) (p : ℕ) where
       }
 
   target-back : (t : ShownTarget) → FitsTarget t → There s p (joined (target_fields t)) → Back s p (target_fields t) (target_at s p) (λ v. target_in s v ≡ t)
+  unfolding target_by
   target-back (four x) ok h =
       let q = p + length (number_bytes 0) in
       let b = four-back s q x ok (number-after s p 0 (raw (high_first 4 x) ∷ []) h) in
-      cased 0 (raw (high_first 4 x) ∷ []) h (omega arith) (record { value = b.value; reads = b.reads ∙ by-four s 0 q refl; right = b.right })
+      cased 0 (raw (high_first 4 x) ∷ []) h (omega arith) b
   target-back (six x y scope) ok h =
       let q = p + length (number_bytes 1) in
       let fs = raw (high_first 8 x ++ high_first 8 y) ∷ number scope ∷ [] in
       let b = six-back s q x y scope ok (number-after s p 1 fs h) in
-      cased 1 fs h (omega arith) (record { value = b.value; reads = b.reads ∙ by-six s 1 q (λ z. omega arith) refl; right = b.right })
+      cased 1 fs h (omega arith) b
   target-back (host x) ok h =
       let q = p + length (number_bytes 2) in
       let fs = number (length x) ∷ raw x ∷ [] in
       let b = host-back s q x ok (number-after s p 2 fs h) in
-      cased 2 fs h (omega arith) (record { value = b.value; reads = b.reads ∙ by-host s 2 q (λ z. omega arith) (λ z. omega arith); right = b.right })
+      cased 2 fs h (omega arith) b
 
   ech-back : (o : Option (List ℕ)) → FitsEch o → There s p (joined (ech_fields o)) → Back s p (ech_fields o) (ech_at s p) (λ v. ech_in s v ≡ o)
-  unfolding ech_at joined
+  unfolding ech_at sealed_by joined
   ech-back none ok h =
       let q = p + length (number_bytes 0) in
       let e : q ≡ p + length (joined (number 0 ∷ [])) = omega (arith, number-ends s p 0 [] h) in
       record {
         value = None;
-        reads = ap (got None) (sym e) ∙ by-none s 0 q refl ∙ went_on (sealed_by s) 0 q (number-reads s p 0 [] h 513 too_many (omega arith) (omega arith));
+        reads = ap (got None) (sym e) ∙ went_on (sealed_by s) 0 q (number-reads s p 0 [] h 513 too_many (omega arith) (omega arith));
         right = refl;
       }
   ech-back (some x) ok h =
@@ -288,7 +294,7 @@ module _ (s : List ℕ) (p : ℕ) where
       record {
         value = Some b;
         reads = ap (got (Some b)) (sym e) ∙ went_on (λ b end. got (Some b) end) b (q + length x) (bytes_back s q x w ∙ ap (λ k. bytes_at s k q) m)
-            ∙ by-sealed s n q (λ z. omega arith)
+            ∙ sealed-some s n q (λ z. omega arith)
             ∙ went_on (sealed_by s) n q (number-reads s p n (raw x ∷ []) h 513 too_many (omega arith) (omega arith));
         right = ap some (span-back s q x w);
       }

@@ -1,5 +1,4 @@
 -- Laws that several proofs, and the crates above, cite.
-pub mod Branches
 pub mod Back
 pub mod AnswerBack
 pub mod Settled

@@ -1,5 +1,5 @@
 #![tactic(auto)]
-// Answers read back (rules S.1 and B.10): what each says, and where its bytes stand.
+// Answers read back (rule B.13): what each says, and where its bytes stand.
 ghost use Rattle.std.specs.Prelude.{◌≡◌};
 ghost use Rattle.numbers.specs.Shown.{shown};
 ghost use Rattle.reader.specs.Reading.{kind_of, rank_of, reason_of, table_of, sized_at, query_at, four_at, six_at, host_at, target_at, ech_at, port_at, endpoint_at, attempt_at, most_of, rest_at, kind_at, answer_at};
@@ -41,13 +41,14 @@ pub enum Answer {
     Succeeded,
     Failed(Reason),
     Full(Table),
-    // 0 for an input that was accepted, else the refusal's number
+    // 0 for an input that was accepted, else the refusal's number: what `input` of answers/Answers says of it
     Taken(u64),
 }
 
-// A value with the place after its last byte.
+// A value with the place after its last byte. Bytes and a place stay two parameters, as in `numbers`: every promise speaks of both.
 type Read<T> = Result<(T, usize), Refusal>;
 
+// The case of each number (rules B.9 and B.11), which its reader has found in range: no number is refused here, so no `TryFrom`.
 #[tactic(auto, unfolding(crate::specs::Reading::kind_of))]
 fn kind_of(n: u64) -> Kind
     ensures { result ≡ kind_of n }
