@@ -1,4 +1,5 @@
 -- An input over the whole machine: refused it leaves both tables; accepted it holds an answer or ends an attempt in progress.
+use Rattle.std.specs.Prelude.{Ok, Err}
 use Prim.Native.Nat.{ℕ, suc, ◌+◌, ◌≤◌, ◌<◌}
 use mathlib.Core.Path.{◌≡◌, refl, sym, ap, ◌∙◌}
 use mathlib.Core.Bool.{Bool, true, false, false≢true, cond}
@@ -28,12 +29,10 @@ use Rattle.state.specs.declared.changes.InputChange.TheVariants as change
 use Rattle.state.specs.declared.changes.Round.{Round}
 use Rattle.state.specs.declared.changes.Round.TheVariants.{First, Second}
 use Rattle.starting.specs.Surveys.{is_answered}
-use Rattle.input.specs.Input.{is_failed, stored_at, with_answer, record_at, attempt_at, verdict_of}
+use Rattle.input.specs.Input.{Verdict, is_failed, stored_at, with_answer, record_at, attempt_at, verdict_of}
 use Rattle.input.specs.Verdicts.{is_over, result_of, Waits, refresh_after, Answered, end_of, again, Ends, Ended}
 use Rattle.input.specs.declared.Input.{Input}
 use Rattle.input.specs.declared.Input.TheVariants as input
-use Rattle.input.specs.declared.Verdict.{Verdict}
-use Rattle.input.specs.declared.Verdict.TheVariants as verdict
 use Rattle.input.specs.declared.Outcome.{Outcome}
 use Rattle.input.specs.declared.Outcome.TheVariants as outcome
 use Rattle.input.proofs.Laws.{held_after, failed-after, ended-after}
@@ -206,11 +205,11 @@ module _ (m : Machine) (now : ℕ) (o : Room m.queries m.attempts) (f : Fits (as
   abbrev verdict_on : Input → Verdict
   verdict_on i = verdict_of m.rules.ech m.queries m.attempts m.retries.count i now
 
-  ended : (r : Outcome) (id : ℕ) (c : InputChange) (b : Beside) → verdict_on (result_of r id) ≡ verdict.Accepted c → Taken c b
+  ended : (r : Outcome) (id : ℕ) (c : InputChange) (b : Beside) → verdict_on (result_of r id) ≡ Ok c → Taken c b
   ended r id c b e =
       ends m.rules.ech m.retries.count id r c b (ended-after m.rules.ech m.queries m.attempts m.retries.count now r id c e)
 
-  accepted : (i : Input) (c : InputChange) (b : Beside) → verdict_on i ≡ verdict.Accepted c → Taken c b
+  accepted : (i : Input) (c : InputChange) (b : Beside) → verdict_on i ≡ Ok c → Taken c b
   accepted (input.Fails k id stale) c b e =
       holds k id stale (held.Failed now) (omega arith) refl c b
       (failed-after m.rules.ech m.queries m.attempts m.retries.count now k id stale c e)
@@ -226,5 +225,5 @@ module _ (m : Machine) (now : ℕ) (o : Room m.queries m.attempts) (f : Fits (as
   taken i b = by (verdict_on i) refl
     where
       by : (v : Verdict) → verdict_on i ≡ v → Taken (change_of v) b
-      by (verdict.Accepted c) e = accepted i c b e
-      by (verdict.Refused r) e = unchanged b
+      by (Ok c) e = accepted i c b e
+      by (Err r) e = unchanged b

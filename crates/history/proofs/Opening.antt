@@ -1,4 +1,5 @@
 -- When attempts may start once nothing else is to be done: no query is wanted and nothing is left of the resolution delay.
+use Rattle.std.specs.Prelude.{Option, Some, None}
 use Prim.Native.Nat.{ℕ}
 use mathlib.Core.Path.{◌≡◌, refl, sym, ap, ◌∙◌}
 use mathlib.Core.Bool.{Bool, true, false, false≢true, not, cond, ◌&&◌, ◌||◌}
@@ -22,19 +23,15 @@ use Rattle.records.specs.declared.queries.Query.{Query}
 use Rattle.state.specs.State.{https_place}
 use Rattle.starting.specs.Surveys.{is_kind, is_answered, is_answered_kind, came, answer_times, sooner_of, oldest_of}
 use Rattle.starting.specs.Starting.{resolution_left, resolution_met, some_address, preferred_settled, move_on_without_timeout, move_on_with_timeout, unresolved, may_start}
-use Rattle.upcoming.specs.Wanted.{missing, origin_addresses, origin_wanted}
-use Rattle.starting.specs.declared.surveys.Moment.{Moment}
-use Rattle.starting.specs.declared.surveys.Moment.TheVariants as moment
+use Rattle.upcoming.specs.Wanted.{Wanted, missing, origin_addresses, origin_wanted}
 use Rattle.starting.specs.declared.surveys.Kinds.{Kinds}
 use Rattle.starting.specs.declared.surveys.Asks.{Asks}
 use Rattle.starting.specs.declared.surveys.Hinted.{Hinted}
-use Rattle.upcoming.specs.declared.wanted.Wanted.{Wanted}
-use Rattle.upcoming.specs.declared.wanted.Wanted.TheVariants as wanted
 use Rattle.starting.proofs.Laws.{met-or-left}
 use Rattle.machine.specs.Output.{origin_in}
 
 -- a wish for a query is none
-never-wanted : {X : Type 0} (k : Kind) (p : ℕ) → wanted.Query k p ≡ wanted.Nothing → X
+never-wanted : {X : Type 0} (k : Kind) (p : ℕ) → ◌≡◌ {A = Wanted} (Some (k, p)) None → X
 never-wanted k p e = absurd (let z : ◌≡◌ {A = ℕ} 0 1 = cc in omega arith)
 
 or-first : (a b : Bool) → a ≡ true → a || b ≡ true
@@ -54,7 +51,7 @@ pub record Settled (asked answered : Kinds) : Type 0 where
   pub a : asked.a ≡ true → answered.a ≡ true
 
 -- no address type is missing, so the preferred one was asked for
-six-asked : (p : Preference) (six four : Bool) → missing p (record { six = six; four = four }) 0 ≡ wanted.Nothing → prefers_six p ≡ true → six ≡ true
+six-asked : (p : Preference) (six four : Bool) → missing p (record { six = six; four = four }) 0 ≡ None → prefers_six p ≡ true → six ≡ true
 unfolding missing
 six-asked DualStackPreferV6 true four e f = refl
 six-asked DualStackPreferV6 false four e f = never-wanted Aaaa 0 e
@@ -63,7 +60,7 @@ six-asked Ipv6Only true four e f = refl
 six-asked Ipv6Only false four e f = never-wanted Aaaa 0 e
 six-asked Ipv4Only six four e f = absurd (false≢true f)
 
-four-asked : (p : Preference) (six four : Bool) → missing p (record { six = six; four = four }) 0 ≡ wanted.Nothing → prefers_six p ≡ false → four ≡ true
+four-asked : (p : Preference) (six four : Bool) → missing p (record { six = six; four = four }) 0 ≡ None → prefers_six p ≡ false → four ≡ true
 unfolding missing
 four-asked DualStackPreferV6 six four e f = absurd (false≢true (sym f))
 four-asked DualStackPreferV4 true true e f = refl
@@ -74,7 +71,7 @@ four-asked Ipv4Only six true e f = refl
 four-asked Ipv4Only six false e f = never-wanted A 0 e
 
 module _ (t : Timing) (asks : Asks) (hinted : Hinted) (now : ℕ) where
-  settled-preferred : (p : Preference) → missing p (record { six = asks.asked.aaaa; four = asks.asked.a }) 0 ≡ wanted.Nothing → Settled asks.asked asks.answered
+  settled-preferred : (p : Preference) → missing p (record { six = asks.asked.aaaa; four = asks.asked.a }) 0 ≡ None → Settled asks.asked asks.answered
       → preferred_settled t.wait (prefers_six p) asks hinted ≡ true
   unfolding preferred_settled
   settled-preferred p e s = by t.wait (prefers_six p) refl
@@ -86,26 +83,26 @@ module _ (t : Timing) (asks : Asks) (hinted : Hinted) (now : ℕ) where
       by false six f = refl
 
   -- the HTTPS record was asked for, or it would be wanted
-  https-asked : (https : Bool) (w : Wanted) (p : ℕ) → cond https w (wanted.Query Https p) ≡ wanted.Nothing → (https ≡ true) × (w ≡ wanted.Nothing)
+  https-asked : (https : Bool) (w : Wanted) (p : ℕ) → cond https w (Some (Https, p)) ≡ None → (https ≡ true) × (w ≡ None)
   https-asked true w p e = (refl, e)
   https-asked false w p e = never-wanted Https p e
 
   -- all is answered: no timeout is needed
   answered-all : (m : Mode) (p : Preference) (place : ℕ) → unresolved m ≡ false → some_address asks hinted ≡ true
       → Settled asks.asked asks.answered
-      → origin_in m (cond asks.asked.https (origin_addresses m p asks.asked) (wanted.Query Https place)) ≡ wanted.Nothing
+      → origin_in m (cond asks.asked.https (origin_addresses m p asks.asked) (Some (Https, place))) ≡ None
       → asks.answered.https && cond (with_https m) true (some_address asks hinted && preferred_settled t.wait (prefers_six p) asks hinted) ≡ true
   answered-all mode.Ip p place u some s e =
       let h = https-asked asks.asked.https (origin_addresses mode.Ip p asks.asked) place e in
       and_both _ _ (s.https h.0) (and_both _ _ some (settled-preferred p h.1 s))
   answered-all mode.Name p place u some s e = absurd (false≢true (sym u))
-  answered-all mode.NameWithHttpsRr p place u some s e = and_both _ _ (s.https (https-asked asks.asked.https wanted.Nothing place e).0) refl
+  answered-all mode.NameWithHttpsRr p place u some s e = and_both _ _ (s.https (https-asked asks.asked.https None place e).0) refl
 
   module _ (r : Rules) where
     -- an address, and nothing left to wait for or to ask: attempts may start
-    pub opens : some_address asks hinted ≡ true → (w : ℕ) → asks.oldest ≡ moment.At w
+    pub opens : some_address asks hinted ≡ true → (w : ℕ) → asks.oldest ≡ Some w
         → (asks.pending ≡ false → Settled asks.asked asks.answered)
-        → origin_in r.mode (origin_wanted r asks.asked) ≡ wanted.Nothing → nat_lt 0 (resolution_left t asks now) ≡ false → may_start r t asks hinted now ≡ true
+        → origin_in r.mode (origin_wanted r asks.asked) ≡ None → nat_lt 0 (resolution_left t asks now) ≡ false → may_start r t asks hinted now ≡ true
     unfolding may_start origin_wanted move_on_without_timeout move_on_with_timeout resolution_left
     opens some w o s e l = by (is_named r.host) (unresolved r.mode) asks.pending refl refl refl
       where
@@ -168,18 +165,18 @@ kind-answered k (x ∷ l) n e = by (is_kind k x) (is_answered x) n e (kind-answe
     by false true n e h = h n e
 
 -- an answer has come
-pub answer-came : (l : List Query) → some? is_answered l ≡ true → (w : ℕ) × (oldest_of (answer_times l) ≡ moment.At w)
+pub answer-came : (l : List Query) → some? is_answered l ≡ true → (w : ℕ) × (oldest_of (answer_times l) ≡ Some w)
 unfolding some? answer_times oldest_of
 answer-came [] e = absurd (false≢true e)
 answer-came (x ∷ l) e = by x.answer e (answer-came l)
   where
-    sooner : (u : ℕ) (m : Moment) → (w : ℕ) × (sooner_of u m ≡ moment.At w)
-    sooner u moment.Never = (u, refl)
-    sooner u (moment.At v) = (_, refl)
+    sooner : (u : ℕ) (m : Option ℕ) → (w : ℕ) × (sooner_of u m ≡ Some w)
+    sooner u None = (u, refl)
+    sooner u (Some v) = (_, refl)
 
     by : (y : Answer) → cond (answered y) true (some? is_answered l) ≡ true
-        → (some? is_answered l ≡ true → (w : ℕ) × (oldest_of (answer_times l) ≡ moment.At w))
-        → (w : ℕ) × (oldest_of (came y (answer_times l)) ≡ moment.At w)
+        → (some? is_answered l ≡ true → (w : ℕ) × (oldest_of (answer_times l) ≡ Some w))
+        → (w : ℕ) × (oldest_of (came y (answer_times l)) ≡ Some w)
     by answer.Pending e h = h e
     by (answer.Failed u) e h = sooner u (oldest_of (answer_times l))
     by (answer.Held u n) e h = sooner u (oldest_of (answer_times l))

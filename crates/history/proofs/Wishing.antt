@@ -1,10 +1,11 @@
 -- What the rules call for rests on what an edition must show.
+use Rattle.std.specs.Prelude.{Option, Some, None}
 use Prim.Native.Nat.{ℕ, suc, ◌+◌, ◌-◌, ◌≤◌, ◌<◌}
 use mathlib.Core.Path.{◌≡◌, refl, ap, ◌∙◌}
 use mathlib.Core.Bool.{Bool, true, false, false≢true, not, cond, ◌&&◌, ◌||◌}
 use mathlib.Core.Logic.{inl, inr}
 use mathlib.Core.List.{List, [], ◌∷◌, Memᴰ}
-use mathlib.Core.Option.{Option, none, some}
+use mathlib.Core.Option.{Option as Maybe, none, some}
 use native.Mathlib.Omega.{arith}
 use lib.Dec.{ltb as nat_lt}
 use lib.ListN.{length, get_or}
@@ -27,16 +28,8 @@ use Rattle.state.specs.declared.Machine.{Machine}
 use Rattle.state.specs.declared.attempts.Attempt.{Attempt}
 use Rattle.starting.specs.Surveys.{first_place, later_of, sooner_of, latest_of, oldest_of, starts, is_open_attempt, tries_of, is_kind, is_answered, has_address, came, answer_times, is_due_query, asks_of, hints_of}
 use Rattle.starting.specs.Starting.{elapsed, left_of, attempt_delay, attempt_left, resolution_left, some_address, may_start}
-use Rattle.upcoming.specs.Wanted.{wanted_in, wanted_by, next_query}
-use Rattle.upcoming.specs.Next.{attempted, next_of, next_retry, next_endpoint}
-use Rattle.starting.specs.declared.surveys.Moment.{Moment}
-use Rattle.starting.specs.declared.surveys.Moment.TheVariants as moment
-use Rattle.starting.specs.declared.surveys.Place.{Place}
-use Rattle.starting.specs.declared.surveys.Place.TheVariants as place
-use Rattle.upcoming.specs.declared.next.Next.{Next}
-use Rattle.upcoming.specs.declared.next.Next.TheVariants as next
-use Rattle.upcoming.specs.declared.wanted.Wanted.{Wanted}
-use Rattle.upcoming.specs.declared.wanted.Wanted.TheVariants as wanted
+use Rattle.upcoming.specs.Wanted.{Wanted, wanted_in, wanted_by, next_query}
+use Rattle.upcoming.specs.Next.{Next, attempted, next_of, next_retry, next_endpoint}
 use Rattle.machine.specs.declared.wish.Wish.{Wish}
 use Rattle.machine.specs.declared.wish.Wish.TheVariants as wish
 use Rattle.machine.specs.Output.{end_wish, reason_of, last_wish, timer_wish, refresh_wish, query_wish, attempt_wish, retry_wish, gate, wish_by, wish_of, origin_in}
@@ -49,14 +42,14 @@ use Rattle.history.proofs.Opening.{opens, opens-address, opens-name, opens-https
 -- Searches
 
 -- the first place that passes is one
-place_at : {B : Type 0} (test : B → Bool) (i : ℕ) (l : List B) (d : B) (p : ℕ) → first_place test i l ≡ place.At p
+place_at : {B : Type 0} (test : B → Bool) (i : ℕ) (l : List B) (d : B) (p : ℕ) → first_place test i l ≡ Some p
     → (i ≤ p) × (p < i + length l) × (test (get_or l (p - i) d) ≡ true)
 unfolding first_place
 place_at test i [] d p e = absurd (let z : ◌≡◌ {A = ℕ} 0 1 = cc in omega arith)
 place_at test i (x ∷ l) d p e = by (test x) refl e (place_at test (i + 1) l d p)
   where
-    by : (b : Bool) → test x ≡ b → cond b (place.At i) (first_place test (i + 1) l) ≡ place.At p
-        → (first_place test (i + 1) l ≡ place.At p → (i + 1 ≤ p) × (p < i + 1 + length l) × (test (get_or l (p - (i + 1)) d) ≡ true))
+    by : (b : Bool) → test x ≡ b → cond b (Some i) (first_place test (i + 1) l) ≡ Some p
+        → (first_place test (i + 1) l ≡ Some p → (i + 1 ≤ p) × (p < i + 1 + length l) × (test (get_or l (p - (i + 1)) d) ≡ true))
         → (i ≤ p) × (p < i + suc (length l)) × (test (get_or (x ∷ l) (p - i) d) ≡ true)
     by true t e h = let z : i ≡ p = cc in let y : p - i ≡ 0 = omega arith in (omega arith, omega arith, rw y t)
     by false t e h = let k = h e in let y : p - i ≡ suc (p - (i + 1)) = omega (arith, k.0) in (omega (arith, k.0), omega (arith, k.1), rw y k.2)
@@ -75,17 +68,17 @@ open-some (a ∷ l) e = by (is_open a.state) e (open-some l)
 
 -- Moments
 
-abbrev pub moment_of : Moment → ℕ
-moment_of moment.Never = 0
-moment_of (moment.At t) = t
+abbrev pub moment_of : Option ℕ → ℕ
+moment_of None = 0
+moment_of (Some t) = t
 
-later-le : (t u : ℕ) (m : Moment) → u ≤ t → moment_of m ≤ t → moment_of (later_of u m) ≤ t
-later-le t u moment.Never h k = h
-later-le t u (moment.At s) h k = omega arith
+later-le : (t u : ℕ) (m : Option ℕ) → u ≤ t → moment_of m ≤ t → moment_of (later_of u m) ≤ t
+later-le t u None h k = h
+later-le t u (Some s) h k = omega arith
 
-sooner-le : (t u : ℕ) (m : Moment) → u ≤ t → moment_of m ≤ t → moment_of (sooner_of u m) ≤ t
-sooner-le t u moment.Never h k = h
-sooner-le t u (moment.At s) h k = omega arith
+sooner-le : (t u : ℕ) (m : Option ℕ) → u ≤ t → moment_of m ≤ t → moment_of (sooner_of u m) ≤ t
+sooner-le t u None h k = h
+sooner-le t u (Some s) h k = omega arith
 
 latest-le : (t : ℕ) (l : List Attempt) → All (λ a. a.started ≤ t) l → moment_of (latest_of (starts l)) ≤ t
 unfolding All starts latest_of
@@ -107,12 +100,12 @@ oldest-le t (q ∷ l) h = by q.answer h.0 (oldest-le t l h.1)
     by (answer.Held u n) k i = sooner-le t u (oldest_of (answer_times l)) k i
 
 -- what is left of a delay
-left-of : (delay : ℕ) (m : Moment) (now : ℕ) → nat_lt 0 (left_of delay m now) ≡ true → Left delay (moment_of m) now (left_of delay m now)
+left-of : (delay : ℕ) (m : Option ℕ) (now : ℕ) → nat_lt 0 (left_of delay m now) ≡ true → Left delay (moment_of m) now (left_of delay m now)
 unfolding elapsed
-left-of delay moment.Never now e = absurd (let z = ltb-true 0 0 e in omega arith)
-left-of delay (moment.At t) now e = let z = ltb-true 0 (delay - (now - t)) e in (omega arith, refl)
+left-of delay None now e = absurd (let z = ltb-true 0 0 e in omega arith)
+left-of delay (Some t) now e = let z = ltb-true 0 (delay - (now - t)) e in (omega arith, refl)
 
-left-pending : (pending : Bool) (delay : ℕ) (m : Moment) (now : ℕ) → nat_lt 0 (cond pending (left_of delay m now) 0) ≡ true
+left-pending : (pending : Bool) (delay : ℕ) (m : Option ℕ) (now : ℕ) → nat_lt 0 (cond pending (left_of delay m now) 0) ≡ true
     → Left delay (moment_of m) now (cond pending (left_of delay m now) 0)
 left-pending true delay m now e = left-of delay m now e
 left-pending false delay m now e = absurd (let z = ltb-true 0 0 e in omega arith)
@@ -133,49 +126,49 @@ module _ (P : Wish → Type 0) where
   if-so true x y h k = h refl
   if-so false x y h k = k refl
 
-  if-end : (x : Place) → ((p : ℕ) → x ≡ place.At p → P (wish.Cancel p)) → P wish.Succeeded → P (end_wish x)
-  if-end (place.At p) h k = h p refl
-  if-end place.Nowhere h k = k
+  if-end : (x : Option ℕ) → ((p : ℕ) → x ≡ Some p → P (wish.Cancel p)) → P wish.Succeeded → P (end_wish x)
+  if-end (Some p) h k = h p refl
+  if-end None h k = k
 
-  if-retry : (x : Next) (rest : Wish) → ((e : Endpoint) → x ≡ next.New e → P (wish.Retry e)) → P rest → P (retry_wish x rest)
-  if-retry (next.New e) rest h k = h e refl
-  if-retry next.Nothing rest h k = k
+  if-retry : (x : Next) (rest : Wish) → ((e : Endpoint) → x ≡ Some e → P (wish.Retry e)) → P rest → P (retry_wish x rest)
+  if-retry (Some e) rest h k = h e refl
+  if-retry None rest h k = k
 
-  if-attempt : (x : Next) (rest : Wish) → ((e : Endpoint) → x ≡ next.New e → P (wish.Attempt e)) → (x ≡ next.Nothing → P rest)
+  if-attempt : (x : Next) (rest : Wish) → ((e : Endpoint) → x ≡ Some e → P (wish.Attempt e)) → (x ≡ None → P rest)
       → P (attempt_wish x rest)
-  if-attempt (next.New e) rest h k = h e refl
-  if-attempt next.Nothing rest h k = k refl
+  if-attempt (Some e) rest h k = h e refl
+  if-attempt None rest h k = k refl
 
-  if-query : (x : Wanted) (rest : Wish) → ((k : Kind) (p : ℕ) → P (wish.Query k p)) → (x ≡ wanted.Nothing → P rest) → P (query_wish x rest)
-  if-query (wanted.Query k p) rest h g = h k p
-  if-query wanted.Nothing rest h g = g refl
+  if-query : (x : Wanted) (rest : Wish) → ((k : Kind) (p : ℕ) → P (wish.Query k p)) → (x ≡ None → P rest) → P (query_wish x rest)
+  if-query (Some (k, p)) rest h g = h k p
+  if-query None rest h g = g refl
 
-  if-refresh : (x : Place) (rest : Wish) → ((p : ℕ) → x ≡ place.At p → P (wish.Refresh p)) → P rest → P (refresh_wish x rest)
-  if-refresh (place.At p) rest h k = h p refl
-  if-refresh place.Nowhere rest h k = k
+  if-refresh : (x : Option ℕ) (rest : Wish) → ((p : ℕ) → x ≡ Some p → P (wish.Refresh p)) → P rest → P (refresh_wish x rest)
+  if-refresh (Some p) rest h k = h p refl
+  if-refresh None rest h k = k
 
 -- The first that wasn't attempted
 
-next-new : (test : Endpoint → Bool) (l : List Endpoint) (e : Endpoint) → next_of (first_of (λ x. not (test x)) l) ≡ next.New e → test e ≡ false
+next-new : (test : Endpoint → Bool) (l : List Endpoint) (e : Endpoint) → next_of (first_of (λ x. not (test x)) l) ≡ Some e → test e ≡ false
 next-new test l e h = by (first_of (λ x. not (test x)) l) refl h
   where
-    by : (o : Option Endpoint) → first_of (λ x. not (test x)) l ≡ o → next_of o ≡ next.New e → test e ≡ false
+    by : (o : Maybe Endpoint) → first_of (λ x. not (test x)) l ≡ o → next_of o ≡ Some e → test e ≡ false
     by none g h = absurd (let z : ◌≡◌ {A = ℕ} 0 1 = cc in omega arith)
     by (some x) g h = let z : x ≡ e = cc in not-true (test e) (first_member (λ y. not (test y)) l e (g ∙ ap some z)).1
 
-next-none : (test : Endpoint → Bool) (l : List Endpoint) → next_of (first_of (λ x. not (test x)) l) ≡ next.Nothing → (e : Endpoint)
+next-none : (test : Endpoint → Bool) (l : List Endpoint) → next_of (first_of (λ x. not (test x)) l) ≡ None → (e : Endpoint)
     → Memᴰ e l → test e ≡ true
 next-none test l h e i = by (first_of (λ x. not (test x)) l) refl h
   where
-    by : (o : Option Endpoint) → first_of (λ x. not (test x)) l ≡ o → next_of o ≡ next.Nothing → test e ≡ true
+    by : (o : Maybe Endpoint) → first_of (λ x. not (test x)) l ≡ o → next_of o ≡ None → test e ≡ true
     by none g h = not-false (test e) (only-if-none (λ y. not (test y)) l g e i)
     by (some x) g h = absurd (let z : ◌≡◌ {A = ℕ} 0 1 = cc in omega arith)
 
 -- Nothing else to do
 
-origin-none : (m : Mode) (o others : Wanted) → wanted_in m o others ≡ wanted.Nothing → origin_in m o ≡ wanted.Nothing
-origin-none mode.Ip wanted.Nothing others e = refl
-origin-none mode.Ip (wanted.Query k p) others e = e
+origin-none : (m : Mode) (o others : Wanted) → wanted_in m o others ≡ None → origin_in m o ≡ None
+origin-none mode.Ip None others e = refl
+origin-none mode.Ip (Some (k, p)) others e = e
 origin-none mode.Name o others e = refl
 origin-none mode.NameWithHttpsRr o others e = e
 
@@ -190,11 +183,11 @@ module _ (m : Machine) (now : ℕ) where
   is_gated = gate m.rules m.timing (tries_of m.attempts) (asks_of m.queries) (hints_of m.services) now
 
   abbrev gated : Next
-  gated = cond is_gated following next.Nothing
+  gated = cond is_gated following None
 
   pub record Idle : Type 0 where
-    pub no-attempt : gated ≡ next.Nothing
-    pub no-query : next_query m.rules m.alts m.queries m.services (same_at m.names) ≡ wanted.Nothing
+    pub no-attempt : gated ≡ None
+    pub no-query : next_query m.rules m.alts m.queries m.services (same_at m.names) ≡ None
     pub no-delay : nat_lt 0 (attempt_left m.timing (tries_of m.attempts) now) ≡ false
     pub no-wait : nat_lt 0 (resolution_left m.timing (asks_of m.queries) now) ≡ false
 
@@ -282,7 +275,7 @@ module _ (m : Machine) (now : ℕ) where
       pending false true c d h e = refl
       pending false false c d h e = h e
 
-  why-timer : gated ≡ next.Nothing → next_query m.rules m.alts m.queries m.services (same_at m.names) ≡ wanted.Nothing
+  why-timer : gated ≡ None → next_query m.rules m.alts m.queries m.services (same_at m.names) ≡ None
       → Why (timer_wish (attempt_left m.timing (tries_of m.attempts) now) (resolution_left m.timing (asks_of m.queries) now) (last_wish (tries_of m.attempts) (asks_of m.queries) m.attempts.count))
   unfolding timer_wish attempt_left resolution_left
   why-timer g q =
@@ -290,11 +283,11 @@ module _ (m : Machine) (now : ℕ) where
       (λ e. if-so Why (nat_lt 0 (resolution_left m.timing (asks_of m.queries) now)) _ _ (λ f. left-pending (asks_of m.queries).pending m.timing.resolution (asks_of m.queries).oldest now f)
       (λ f. why-last (record { no-attempt = g; no-query = q; no-delay = e; no-wait = f })))
 
-  found_at : {B : Type 0} (test : B → Bool) (l : List B) (d : B) (p : ℕ) → first_place test 0 l ≡ place.At p
+  found_at : {B : Type 0} (test : B → Bool) (l : List B) (d : B) (p : ℕ) → first_place test 0 l ≡ Some p
       → (p < length l) × (test (get_or l p d) ≡ true)
   found_at test l d p e = let k = place_at test 0 l d p e in let z : p - 0 ≡ p = omega arith in (omega (arith, k.1), rw z at k.2)
 
-  gate-new : (b : Bool) (x : Next) (e : Endpoint) → cond b x next.Nothing ≡ next.New e → x ≡ next.New e
+  gate-new : (b : Bool) (x : Next) (e : Endpoint) → cond b x None ≡ Some e → x ≡ Some e
   gate-new true x e h = h
   gate-new false x e h = absurd (let z : ◌≡◌ {A = ℕ} 0 1 = cc in omega arith)
 

@@ -8,6 +8,7 @@ use lib.Dec.{eqb as nat_eq}
 use lib.ListN.{length, take, get_or, length-take}
 use lib.Seq.{get_or-take}
 use borrow.Author.Tests.{eqb-true, eqb-false}
+use Rattle.std.specs.Prelude.{Option, Some, None}
 use Rattle.records.specs.Queries.{no_query}
 use Rattle.records.specs.declared.queries.Query.{Query}
 use Rattle.records.specs.declared.queries.Queries.{Queries}
@@ -18,8 +19,6 @@ use Rattle.state.specs.declared.attempts.Attempt.{Attempt}
 use Rattle.state.specs.declared.attempts.Attempts.{Attempts}
 use Rattle.input.specs.declared.Asked.{Asked}
 use Rattle.input.specs.declared.Asked.TheVariants as who
-use Rattle.input.specs.declared.Tried.{Tried}
-use Rattle.input.specs.declared.Tried.TheVariants as tries
 use Rattle.input.specs.Input.{in_flight, asked_from, asked_of, tried_from, tried_of, record_at, attempt_at}
 use Rattle.input.specs.Verdicts.{records_in, attempts_in, Owns, Refreshes, Lacks}
 
@@ -28,8 +27,8 @@ module _ {A : Type 0} (d : A) (P : A → Type 0) where
   abbrev Member : ℕ → List A → ℕ → Type 0
   Member i l p = (j : ℕ) × (p ≡ i + j) × (j < length l) × P (get_or l j d)
 
-  abbrev None : List A → Type 0
-  None l = (j : ℕ) → j < length l → P (get_or l j d)
+  abbrev NoMember : List A → Type 0
+  NoMember l = (j : ℕ) → j < length l → P (get_or l j d)
 
   here : (i : ℕ) (x : A) (l : List A) → P x → Member i (x ∷ l) i
   here i x l h = (0, omega arith, omega arith, h)
@@ -37,7 +36,7 @@ module _ {A : Type 0} (d : A) (P : A → Type 0) where
   later : (i : ℕ) (x : A) (l : List A) (p : ℕ) → Member (i + 1) l p → Member i (x ∷ l) p
   later i x l p m = (suc m.0, omega (arith, m.1), omega (arith, m.2), m.3)
 
-  none_more : (x : A) (l : List A) → P x → None l → None (x ∷ l)
+  none_more : (x : A) (l : List A) → P x → NoMember l → NoMember (x ∷ l)
   none_more x l h k zero q = h
   none_more x l h k (suc j) q = k j (omega arith)
 
@@ -49,7 +48,7 @@ module _ {A : Type 0} (d : A) (P : A → Type 0) where
       let q : m.0 < n = omega (arith, h) in
       (omega (arith, e, h), rw (e, ← get_or-take n l m.0 d q) m.3)
 
-  none-at : (n : ℕ) (l : List A) → None (take n l) → (j : ℕ) → j < min n (length l) → P (get_or l j d)
+  none-at : (n : ℕ) (l : List A) → NoMember (take n l) → (j : ℕ) → j < min n (length l) → P (get_or l j d)
   none-at n l k j h =
       let q : j < n = omega (arith, h) in
       let z : j < length (take n l) = rw (length-take n l) h in
@@ -67,7 +66,7 @@ not-flying : (r : Refresh) (id : ℕ) → in_flight r id ≡ false → r ≡ InF
 not-flying r id h e = eqb-false id id (rw e at h) refl
 
 abbrev From : ℕ → List Query → ℕ → Asked → Type 0
-From i l id who.Nobody = None no_query (Lacks id) l
+From i l id who.Nobody = NoMember no_query (Lacks id) l
 From i l id (who.Own p) = Member no_query (Owns id) i l p
 From i l id (who.Refresh p) = Member no_query (Refreshes id) i l p
 
@@ -108,34 +107,34 @@ Is id x = x.id ≡ id
 abbrev pub IsNot : ℕ → Attempt → Type 0
 IsNot id x = x.id ≡ id → ⊥
 
-abbrev TriedFrom : ℕ → List Attempt → ℕ → Tried → Type 0
-TriedFrom i l id tries.Nobody = None no_attempt (IsNot id) l
-TriedFrom i l id (tries.At p) = Member no_attempt (Is id) i l p
+abbrev TriedFrom : ℕ → List Attempt → ℕ → Option ℕ → Type 0
+TriedFrom i l id None = NoMember no_attempt (IsNot id) l
+TriedFrom i l id (Some p) = Member no_attempt (Is id) i l p
 
 tried-from : (i : ℕ) (l : List Attempt) (id : ℕ) → TriedFrom i l id (tried_from i l id)
 unfolding tried_from
 tried-from i [] id = λ j h. absurd (omega arith)
 tried-from i (x ∷ l) id = by (nat_eq x.id id) refl (tried-from (i + 1) l id)
   where
-    past : (w : Tried) → nat_eq x.id id ≡ false → TriedFrom (i + 1) l id w → TriedFrom i (x ∷ l) id w
-    past tries.Nobody e h = none_more no_attempt (IsNot id) x l (eqb-false x.id id e) h
-    past (tries.At p) e h = later no_attempt (Is id) i x l p h
+    past : (w : Option ℕ) → nat_eq x.id id ≡ false → TriedFrom (i + 1) l id w → TriedFrom i (x ∷ l) id w
+    past None e h = none_more no_attempt (IsNot id) x l (eqb-false x.id id e) h
+    past (Some p) e h = later no_attempt (Is id) i x l p h
 
-    by : (b : Bool) → nat_eq x.id id ≡ b → TriedFrom (i + 1) l id (tried_from (i + 1) l id) → TriedFrom i (x ∷ l) id (cond b (tries.At i) (tried_from (i + 1) l id))
+    by : (b : Bool) → nat_eq x.id id ≡ b → TriedFrom (i + 1) l id (tried_from (i + 1) l id) → TriedFrom i (x ∷ l) id (cond b (Some i) (tried_from (i + 1) l id))
     by true e h = here no_attempt (Is id) i x l (eqb-true x.id id e)
     by false e h = past (tried_from (i + 1) l id) e h
 
-abbrev pub Had : Attempts → ℕ → Tried → Type 0
-Had a id tries.Nobody = (j : ℕ) → j < attempts_in a → IsNot id (attempt_at a j)
-Had a id (tries.At p) = (p < attempts_in a) × Is id (attempt_at a p)
+abbrev pub Had : Attempts → ℕ → Option ℕ → Type 0
+Had a id None = (j : ℕ) → j < attempts_in a → IsNot id (attempt_at a j)
+Had a id (Some p) = (p < attempts_in a) × Is id (attempt_at a p)
 
 pub tried-had : (a : Attempts) (id : ℕ) → Had a id (tried_of a id)
 unfolding tried_of
 tried-had a id = whole (tried_from 0 (tried a) id) (tried-from 0 (tried a) id)
   where
-    whole : (w : Tried) → TriedFrom 0 (tried a) id w → Had a id w
-    whole tries.Nobody h = none-at no_attempt (IsNot id) a.count a.list h
-    whole (tries.At p) h = member-at no_attempt (Is id) a.count a.list p h
+    whole : (w : Option ℕ) → TriedFrom 0 (tried a) id w → Had a id w
+    whole None h = none-at no_attempt (IsNot id) a.count a.list h
+    whole (Some p) h = member-at no_attempt (Is id) a.count a.list p h
 
 -- so the place is inside the room
 module _ (q : Queries) (id : ℕ) (t : Asked) (e : t ≡ asked_of q id) (p : ℕ) where
@@ -149,7 +148,7 @@ module _ (q : Queries) (id : ℕ) (t : Asked) (e : t ≡ asked_of q id) (p : ℕ
       let f : Found q id (who.Refresh p) = rw (sym e ∙ h) at (asked-found q id) in
       omega (arith, f.0)
 
-pub tried-inside : (a : Attempts) (id : ℕ) (t : Tried) → t ≡ tried_of a id → (p : ℕ) → t ≡ tries.At p → p < length a.list
+pub tried-inside : (a : Attempts) (id : ℕ) (t : Option ℕ) → t ≡ tried_of a id → (p : ℕ) → t ≡ Some p → p < length a.list
 tried-inside a id t e p h =
-    let f : Had a id (tries.At p) = rw (sym e ∙ h) at (tried-had a id) in
+    let f : Had a id (Some p) = rw (sym e ∙ h) at (tried-had a id) in
     omega (arith, f.0)

@@ -6,6 +6,7 @@ use lib.Dec.{eqb as nat_eq, ltb as nat_lt}
 use lib.ListN.{length}
 use native.Mathlib.Omega.{arith}
 use borrow.Author.Tests.{ltb-true, eqb-true, eqb-false}
+use Rattle.std.specs.Prelude.{Option, Some, None, Ok, Err}
 use Rattle.numbers.specs.declared.refusal.Refusal.{Refusal}
 use Rattle.numbers.specs.declared.refusal.Refusal.TheVariants.{AlreadyAnswered, WrongType, StaleRefresh, EchNotSent}
 use Rattle.records.specs.Numbers.{kind_number}
@@ -29,11 +30,8 @@ use Rattle.state.specs.declared.changes.Round.{Round}
 use Rattle.state.specs.declared.changes.Round.TheVariants.{First, Second}
 use Rattle.input.specs.declared.Input.{Input}
 use Rattle.input.specs.declared.Input.TheVariants as input
-use Rattle.input.specs.declared.Verdict.TheVariants.{Accepted, Refused}
 use Rattle.input.specs.declared.Asked.{Asked}
 use Rattle.input.specs.declared.Asked.TheVariants as who
-use Rattle.input.specs.declared.Tried.{Tried}
-use Rattle.input.specs.declared.Tried.TheVariants as tries
 use Rattle.input.specs.declared.Outcome.{Outcome}
 use Rattle.input.specs.declared.Outcome.TheVariants as outcome
 use Rattle.input.specs.Input.{is_failed, stored_at, stored, with_answer, is_wrong, record_at, asked_of, first_answer, fresh_answer, answer_by, answer_verdict, attempt_at, tried_of, retry_verdict, outcome_verdict, end_verdict, result_by, result_verdict, verdict_of}
@@ -68,7 +66,7 @@ module _ (q : Queries) (k : Kind) (id : ℕ) (stale : Bool) (a : Answer) (p : �
   first_says own = by (answered (record_at q p).answer) (is_wrong k (record_at q p)) refl refl
     where
       by : (b c : Bool) → answered (record_at q p).answer ≡ b → is_wrong k (record_at q p) ≡ c
-          → AnswerSays q k id stale a (cond b (Refused AlreadyAnswered) (cond c (Refused WrongType) (Accepted (stored p (with_answer (record_at q p) a stale Idle) a First))))
+          → AnswerSays q k id stale a (cond b (Err AlreadyAnswered) (cond c (Err WrongType) (Ok (stored p (with_answer (record_at q p) a stale Idle) a First))))
       by true c e f = (p, inside, own, e)
       by false true e f = (p, inside, First, (own, pending _ e), wrong k (record_at q p) f)
       by false false e f = record { place = p; within = inside; round = First; waits = (own, pending _ e); kind = right k (record_at q p) f; fresh = tt; kept = refl }
@@ -78,7 +76,7 @@ module _ (q : Queries) (k : Kind) (id : ℕ) (stale : Bool) (a : Answer) (p : �
   fresh-says own = by (is_wrong k (record_at q p)) stale refl refl
     where
       by : (b s : Bool) → is_wrong k (record_at q p) ≡ b → stale ≡ s
-          → AnswerSays q k id stale a (cond b (Refused WrongType) (cond s (Refused StaleRefresh) (Accepted (stored p (with_answer (record_at q p) a false Done) a Second))))
+          → AnswerSays q k id stale a (cond b (Err WrongType) (cond s (Err StaleRefresh) (Ok (stored p (with_answer (record_at q p) a false Done) a Second))))
       by true s e f = (p, inside, Second, own, wrong k (record_at q p) e)
       by false true e f = (p, inside, own, right k (record_at q p) e, f)
       by false false e f = record { place = p; within = inside; round = Second; waits = own; kind = right k (record_at q p) e; fresh = f; kept = ap (λ s. stored p (with_answer (record_at q p) a s Done) a Second) (sym f) }
@@ -104,7 +102,7 @@ module _ (on : Bool) (a : Attempts) (n id p : ℕ) (inside : p < attempts_in a) 
     where
       by : (b : Bool) → sent on (attempt_at a p) ≡ b
           → ResultSays on a n id outcome.EchRetry
-          (cond b (Accepted (cond (again (attempt_at a p) n outcome.EchRetry) (change.Retries p (with_state (attempt_at a p) state.Failed) n) (change.Ends p (with_state (attempt_at a p) state.Failed)))) (Refused EchNotSent))
+          (cond b (Ok (cond (again (attempt_at a p) n outcome.EchRetry) (change.Retries p (with_state (attempt_at a p) state.Failed) n) (change.Ends p (with_state (attempt_at a p) state.Failed)))) (Err EchNotSent))
       by true h = ended outcome.EchRetry _ (rw e (h, refl))
       by false h = (p, inside, own, rw e, refl, h)
 
@@ -126,9 +124,9 @@ pub result_says : (on : Bool) (a : Attempts) (n id : ℕ) (o : Outcome) → Resu
 unfolding result_verdict
 result_says on a n id o = by (tried_of a id) (tried-had a id)
   where
-    by : (w : Tried) → Had a id w → ResultSays on a n id o (result_by on a n o w)
-    by tries.Nobody h = h
-    by (tries.At p) h = end-says on a n id p h.0 h.1 o
+    by : (w : Option ℕ) → Had a id w → ResultSays on a n id o (result_by on a n o w)
+    by None h = h
+    by (Some p) h = end-says on a n id p h.0 h.1 o
 
 -- a retry is kept only where there is room
 room : (x : Attempt) (n : ℕ) (o : Outcome) → again x n o ≡ true → n < 32
@@ -143,10 +141,10 @@ room x n outcome.EchRetry e = by x.retry e
 -- The whole: an accepted answer is the one held afterwards, with its moment; an accepted result ends its attempt, unless that was cancelled
 
 module _ (on : Bool) (q : Queries) (a : Attempts) (n : ℕ) (now : ℕ) where
-  pub held_after : (k : Kind) (id : ℕ) (stale : Bool) (m : ℕ) (c : InputChange) → verdict_of on q a n (input.Holds k id stale m) now ≡ Accepted c → Answered q k id stale (answer.Held now m) c
+  pub held_after : (k : Kind) (id : ℕ) (stale : Bool) (m : ℕ) (c : InputChange) → verdict_of on q a n (input.Holds k id stale m) now ≡ Ok c → Answered q k id stale (answer.Held now m) c
   held_after k id stale m c e = rw e at (answer-says q k id stale (answer.Held now m))
 
-  pub failed-after : (k : Kind) (id : ℕ) (stale : Bool) (c : InputChange) → verdict_of on q a n (input.Fails k id stale) now ≡ Accepted c → Answered q k id stale (answer.Failed now) c
+  pub failed-after : (k : Kind) (id : ℕ) (stale : Bool) (c : InputChange) → verdict_of on q a n (input.Fails k id stale) now ≡ Ok c → Answered q k id stale (answer.Failed now) c
   failed-after k id stale c e = rw e at (answer-says q k id stale (answer.Failed now))
 
   by-outcome : (o : Outcome) (id : ℕ) → verdict_of on q a n (result_of o id) now ≡ result_verdict on a n id o
@@ -154,7 +152,7 @@ module _ (on : Bool) (q : Queries) (a : Attempts) (n : ℕ) (now : ℕ) where
   by-outcome outcome.Failure id = refl
   by-outcome outcome.EchRetry id = refl
 
-  pub ended-after : (o : Outcome) (id : ℕ) (c : InputChange) → verdict_of on q a n (result_of o id) now ≡ Accepted c → Ended on a n id o c
+  pub ended-after : (o : Outcome) (id : ℕ) (c : InputChange) → verdict_of on q a n (result_of o id) now ≡ Ok c → Ended on a n id o c
   ended-after o id c e = rw (sym (by-outcome o id) ∙ e) at (result_says on a n id o)
 
   -- an accepted result that changes nothing is that of a cancelled attempt
@@ -175,13 +173,13 @@ module _ (on : Bool) (q : Queries) (a : Attempts) (n : ℕ) (now : ℕ) where
       by state.Cancelled e = refl
 
   -- the reason of each refusal
-  pub held-refused : (k : Kind) (id : ℕ) (stale : Bool) (m : ℕ) (r : Refusal) → verdict_of on q a n (input.Holds k id stale m) now ≡ Refused r → AnswerRefused q k id stale r
+  pub held-refused : (k : Kind) (id : ℕ) (stale : Bool) (m : ℕ) (r : Refusal) → verdict_of on q a n (input.Holds k id stale m) now ≡ Err r → AnswerRefused q k id stale r
   held-refused k id stale m r e = rw e at (answer-says q k id stale (answer.Held now m))
 
-  pub failed-refused : (k : Kind) (id : ℕ) (stale : Bool) (r : Refusal) → verdict_of on q a n (input.Fails k id stale) now ≡ Refused r → AnswerRefused q k id stale r
+  pub failed-refused : (k : Kind) (id : ℕ) (stale : Bool) (r : Refusal) → verdict_of on q a n (input.Fails k id stale) now ≡ Err r → AnswerRefused q k id stale r
   failed-refused k id stale r e = rw e at (answer-says q k id stale (answer.Failed now))
 
-  pub result-refused : (o : Outcome) (id : ℕ) (r : Refusal) → verdict_of on q a n (result_of o id) now ≡ Refused r → ResultRefused on a id o r
+  pub result-refused : (o : Outcome) (id : ℕ) (r : Refusal) → verdict_of on q a n (result_of o id) now ≡ Err r → ResultRefused on a id o r
   result-refused o id r e = rw (sym (by-outcome o id) ∙ e) at (result_says on a n id o)
 
   -- Places
@@ -212,12 +210,12 @@ module _ (on : Bool) (q : Queries) (a : Attempts) (n : ℕ) (now : ℕ) where
       by state.Cancelled e = rw e tt
 
   -- an accepted change lies inside its table
-  pub inside : (x : Input) (c : InputChange) → verdict_of on q a n x now ≡ Accepted c → Inside (records_in q) (attempts_in a) n c
+  pub inside : (x : Input) (c : InputChange) → verdict_of on q a n x now ≡ Ok c → Inside (records_in q) (attempts_in a) n c
   inside (input.Fails k id stale) c e = answer-inside k id stale (answer.Failed now) c (failed-after k id stale c e)
   inside (input.Holds k id stale m) c e = answer-inside k id stale (answer.Held now m) c (held_after k id stale m c e)
   inside (input.Success id) c e = result-inside outcome.Success id c (ended-after outcome.Success id c e)
   inside (input.Failure id) c e = result-inside outcome.Failure id c (ended-after outcome.Failure id c e)
   inside (input.EchRetry id) c e = result-inside outcome.EchRetry id c (ended-after outcome.EchRetry id c e)
 
-  pub inside-rooms : length q.list ≡ 16 → length a.list ≡ 32 → (x : Input) (c : InputChange) → verdict_of on q a n x now ≡ Accepted c → Inside (min q.count 16) (min a.count 32) n c
+  pub inside-rooms : length q.list ≡ 16 → length a.list ≡ 32 → (x : Input) (c : InputChange) → verdict_of on q a n x now ≡ Ok c → Inside (min q.count 16) (min a.count 32) n c
   inside-rooms h k x c e = rw (h, k) at (inside x c e)

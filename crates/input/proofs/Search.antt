@@ -1,55 +1,34 @@
 -- Looking for the record, or the attempt, that has an id: one a turn.
 use Prim.Native.Nat.{ℕ, ◌+◌, ◌≤◌, ◌<◌}
 use mathlib.Core.Path.{◌≡◌}
-use mathlib.Core.Bool.{true, false}
+use mathlib.Core.Bool.{cond}
 use mathlib.Core.List.{List}
 use lib.Dec.{eqb as nat_eq}
-use lib.ListN.{length, take, drop, get_or}
+use lib.ListN.{length, drop, get_or, drop_of_length-le}
+use lib.Seq.{drop-cons}
+use native.Mathlib.Numerals.{add-one}
+use Rattle.std.specs.Prelude.{Some, None}
 use Rattle.records.specs.Queries.{no_query}
 use Rattle.records.specs.declared.queries.Query.{Query}
-use Rattle.records.proofs.Walk.{rest_more, rest-none, rest_end}
 use Rattle.state.specs.State.{no_attempt}
 use Rattle.state.specs.declared.attempts.Attempt.{Attempt}
-use Rattle.input.specs.declared.Asked.{Asked}
 use Rattle.input.specs.declared.Asked.TheVariants as who
-use Rattle.input.specs.declared.Tried.{Tried}
-use Rattle.input.specs.declared.Tried.TheVariants as tries
 use Rattle.input.specs.Input.{in_flight, asked_from, tried_from}
 
-module _ (id n : ℕ) (l : List Query) (i : ℕ) (t : Asked) (p : asked_from i (drop i (take n l)) id ≡ t) where
-  pub asked-refresh : i < n → i < length l → in_flight (get_or l i no_query).refresh id ≡ true → who.Refresh i ≡ t
-  unfolding asked_from
-  asked-refresh h k e = rw (rest_more n l i no_query h k, e) at p
+pub asked_step : (l : List Query) (i id : ℕ) → i < length l
+    → asked_from i (drop i l) id ≡ cond (in_flight (get_or l i no_query).refresh id) (who.Refresh i) (cond (nat_eq (get_or l i no_query).id id) (who.Own i) (asked_from (i + 1) (drop (i + 1) l) id))
+unfolding asked_from
+asked_step l i id h = rw (drop-cons l i no_query, asked_from, add-one)
 
-  pub asked-own : i < n → i < length l → in_flight (get_or l i no_query).refresh id ≡ false → nat_eq (get_or l i no_query).id id ≡ true → who.Own i ≡ t
-  unfolding asked_from
-  asked-own h k e f = rw (rest_more n l i no_query h k, e, f) at p
+pub asked_end : (l : List Query) (i id : ℕ) → length l ≤ i → asked_from i (drop i l) id ≡ who.Nobody
+unfolding asked_from
+asked_end l i id h = rw (drop_of_length-le l {i = i} h)
 
-  pub asked-more : i < n → i < length l → in_flight (get_or l i no_query).refresh id ≡ false → nat_eq (get_or l i no_query).id id ≡ false → asked_from (i + 1) (drop (i + 1) (take n l)) id ≡ t
-  unfolding asked_from
-  asked-more h k e f = rw (rest_more n l i no_query h k, e, f) at p
+pub tried_step : (l : List Attempt) (i id : ℕ) → i < length l
+    → tried_from i (drop i l) id ≡ cond (nat_eq (get_or l i no_attempt).id id) (Some i) (tried_from (i + 1) (drop (i + 1) l) id)
+unfolding tried_from
+tried_step l i id h = rw (drop-cons l i no_attempt, tried_from, add-one)
 
-  pub asked-none : n ≤ i → who.Nobody ≡ t
-  unfolding asked_from
-  asked-none h = rw (rest-none n l i h) at p
-
-  pub asked-end : length l ≤ i → who.Nobody ≡ t
-  unfolding asked_from
-  asked-end h = rw (rest_end n l i h) at p
-
-module _ (id n : ℕ) (l : List Attempt) (i : ℕ) (t : Tried) (p : tried_from i (drop i (take n l)) id ≡ t) where
-  pub tried_here : i < n → i < length l → nat_eq (get_or l i no_attempt).id id ≡ true → tries.At i ≡ t
-  unfolding tried_from
-  tried_here h k e = rw (rest_more n l i no_attempt h k, e) at p
-
-  pub tried-more : i < n → i < length l → nat_eq (get_or l i no_attempt).id id ≡ false → tried_from (i + 1) (drop (i + 1) (take n l)) id ≡ t
-  unfolding tried_from
-  tried-more h k e = rw (rest_more n l i no_attempt h k, e) at p
-
-  pub tried-none : n ≤ i → tries.Nobody ≡ t
-  unfolding tried_from
-  tried-none h = rw (rest-none n l i h) at p
-
-  pub tried-end : length l ≤ i → tries.Nobody ≡ t
-  unfolding tried_from
-  tried-end h = rw (rest_end n l i h) at p
+pub tried_end : (l : List Attempt) (i id : ℕ) → length l ≤ i → tried_from i (drop i l) id ≡ None
+unfolding tried_from
+tried_end l i id h = rw (drop_of_length-le l {i = i} h)

@@ -1,6 +1,7 @@
 -- Input (document 01, part 7): the refusals 7 to 12, in their order, and what an accepted input changes. After 7 a first answer is tested
 -- for 8, then 9, a refresh for 9, then 10, and a result for 12, then 11; a cancelled attempt takes any result, and nothing changes.
-use Rattle.std.specs.Prelude.{ℕ, ◌+◌, Bool, true, false, not, cond, ◌&&◌, List, [], ◌∷◌, nat_eq, nat_lt, get_or}
+use Rattle.std.specs.Prelude.{ℕ, ◌+◌, ◌<◌, Bool, true, false, not, cond, ◌&&◌, List, [], ◌∷◌, nat_eq, nat_lt, get_or, Option, Some, None, Result, Ok, Err}
+use Rattle.numbers.specs.declared.refusal.Refusal.{Refusal}
 use Rattle.numbers.specs.declared.refusal.Refusal.TheVariants.{UnknownId, AlreadyAnswered, WrongType, StaleRefresh, EchNotSent, AlreadyEnded}
 use Rattle.records.specs.Numbers.{kind_number}
 use Rattle.records.specs.Queries.{no_query, answered}
@@ -24,14 +25,14 @@ use Rattle.state.specs.declared.changes.Round.{Round}
 use Rattle.state.specs.declared.changes.Round.TheVariants.{First, Second}
 use Rattle.input.specs.declared.Input.{Input}
 use Rattle.input.specs.declared.Input.TheVariants as input
-use Rattle.input.specs.declared.Verdict.{Verdict}
-use Rattle.input.specs.declared.Verdict.TheVariants.{Accepted, Refused}
 use Rattle.input.specs.declared.Asked.{Asked}
 use Rattle.input.specs.declared.Asked.TheVariants as who
-use Rattle.input.specs.declared.Tried.{Tried}
-use Rattle.input.specs.declared.Tried.TheVariants as tries
 use Rattle.input.specs.declared.Outcome.{Outcome}
 use Rattle.input.specs.declared.Outcome.TheVariants as outcome
+
+-- what becomes of an input: what it changes, or why it is refused
+abbrev pub Verdict : Type 0
+Verdict = Result InputChange Refusal
 
 -- "as its own or as a refresh in flight"
 abbrev pub in_flight : Refresh → ℕ → Bool
@@ -44,14 +45,20 @@ unfoldable pub asked_from : ℕ → List Query → ℕ → Asked
 asked_from i [] id = who.Nobody
 asked_from i (q ∷ l) id = cond (in_flight q.refresh id) (who.Refresh i) (cond (nat_eq q.id id) (who.Own i) (asked_from (i + 1) l id))
 
+-- the place is one of a table of n
+abbrev pub IsWithin : ℕ → Asked → Type 0
+IsWithin n who.Nobody = Unit {0}
+IsWithin n (who.Own p) = p < n
+IsWithin n (who.Refresh p) = p < n
+
 unfoldable pub asked_of : Queries → ℕ → Asked
 asked_of q id = asked_from 0 (asked q) id
 
-unfoldable pub tried_from : ℕ → List Attempt → ℕ → Tried
-tried_from i [] id = tries.Nobody
-tried_from i (a ∷ l) id = cond (nat_eq a.id id) (tries.At i) (tried_from (i + 1) l id)
+unfoldable pub tried_from : ℕ → List Attempt → ℕ → Option ℕ
+tried_from i [] id = None
+tried_from i (a ∷ l) id = cond (nat_eq a.id id) (Some i) (tried_from (i + 1) l id)
 
-unfoldable pub tried_of : Attempts → ℕ → Tried
+unfoldable pub tried_of : Attempts → ℕ → Option ℕ
 tried_of a id = tried_from 0 (tried a) id
 
 -- Answers
@@ -78,17 +85,17 @@ is_wrong k q = not (nat_eq (kind_number q.kind) (kind_number k))
 
 -- "a first answer tests 8, 9"
 unfoldable pub first_answer : Query → ℕ → Kind → Bool → Answer → Verdict
-first_answer q p k stale a = cond (answered q.answer) (Refused AlreadyAnswered) (cond (is_wrong k q) (Refused WrongType) (Accepted (stored p (with_answer q a stale Idle) a First)))
+first_answer q p k stale a = cond (answered q.answer) (Err AlreadyAnswered) (cond (is_wrong k q) (Err WrongType) (Ok (stored p (with_answer q a stale Idle) a First)))
 
 -- "a refresh 9, 10"; its answer takes the place and the moment of the stale one
 unfoldable pub fresh_answer : Query → ℕ → Kind → Bool → Answer → Verdict
-fresh_answer q p k stale a = cond (is_wrong k q) (Refused WrongType) (cond stale (Refused StaleRefresh) (Accepted (stored p (with_answer q a false Done) a Second)))
+fresh_answer q p k stale a = cond (is_wrong k q) (Err WrongType) (cond stale (Err StaleRefresh) (Ok (stored p (with_answer q a false Done) a Second)))
 
 abbrev pub record_at : Queries → ℕ → Query
 record_at q p = get_or q.list p no_query
 
 abbrev pub answer_by : Queries → Kind → Bool → Answer → Asked → Verdict
-answer_by q k stale a who.Nobody = Refused UnknownId
+answer_by q k stale a who.Nobody = Err UnknownId
 answer_by q k stale a (who.Own p) = first_answer (record_at q p) p k stale a
 answer_by q k stale a (who.Refresh p) = fresh_answer (record_at q p) p k stale a
 
@@ -102,27 +109,27 @@ answer_verdict q k id stale a = answer_by q k stale a (asked_of q id)
 unfoldable pub retry_verdict : Bool → ℕ → ℕ → Attempt → Verdict
 retry_verdict on count p a =
     cond (on && has_ech a.endpoint.ech)
-    (Accepted (cond (not a.retry && nat_lt count 32) (change.Retries p (with_state a state.Failed) count) (change.Ends p (with_state a state.Failed))))
-    (Refused EchNotSent)
+    (Ok (cond (not a.retry && nat_lt count 32) (change.Retries p (with_state a state.Failed) count) (change.Ends p (with_state a state.Failed))))
+    (Err EchNotSent)
 
 abbrev pub outcome_verdict : Bool → ℕ → ℕ → Attempt → Outcome → Verdict
-outcome_verdict on count p a outcome.Success = Accepted (change.Ends p (with_state a state.Succeeded))
-outcome_verdict on count p a outcome.Failure = Accepted (change.Ends p (with_state a state.Failed))
+outcome_verdict on count p a outcome.Success = Ok (change.Ends p (with_state a state.Succeeded))
+outcome_verdict on count p a outcome.Failure = Ok (change.Ends p (with_state a state.Failed))
 outcome_verdict on count p a outcome.EchRetry = retry_verdict on count p a
 
 -- 12 before 11; a cancelled attempt takes any result, "accepted and ignored"
 abbrev pub end_verdict : Bool → ℕ → ℕ → Attempt → Outcome → State → Verdict
 end_verdict on count p a o state.InProgress = outcome_verdict on count p a o
-end_verdict on count p a o state.Succeeded = Refused AlreadyEnded
-end_verdict on count p a o state.Failed = Refused AlreadyEnded
-end_verdict on count p a o state.Cancelled = Accepted change.Nothing
+end_verdict on count p a o state.Succeeded = Err AlreadyEnded
+end_verdict on count p a o state.Failed = Err AlreadyEnded
+end_verdict on count p a o state.Cancelled = Ok change.Nothing
 
 abbrev pub attempt_at : Attempts → ℕ → Attempt
 attempt_at a p = get_or a.list p no_attempt
 
-abbrev pub result_by : Bool → Attempts → ℕ → Outcome → Tried → Verdict
-result_by on a count o tries.Nobody = Refused UnknownId
-result_by on a count o (tries.At p) = end_verdict on count p (attempt_at a p) o (attempt_at a p).state
+abbrev pub result_by : Bool → Attempts → ℕ → Outcome → Option ℕ → Verdict
+result_by on a count o None = Err UnknownId
+result_by on a count o (Some p) = end_verdict on count p (attempt_at a p) o (attempt_at a p).state
 
 unfoldable pub result_verdict : Bool → Attempts → ℕ → ℕ → Outcome → Verdict
 result_verdict on a count id o = result_by on a count o (tried_of a id)

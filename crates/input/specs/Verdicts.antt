@@ -1,5 +1,5 @@
 -- What a verdict says (document 01, "Refusal numbers" and part 7), without the order in which the tests are made.
-use Rattle.std.specs.Prelude.{ℕ, ◌<◌, min, ◌≡◌, Bool, true, false, not, cond, ◌&&◌, nat_lt, length}
+use Rattle.std.specs.Prelude.{ℕ, ◌<◌, min, ◌≡◌, Bool, true, false, not, cond, ◌&&◌, nat_lt, length, Ok, Err}
 use Rattle.numbers.specs.declared.refusal.Refusal.{Refusal}
 use Rattle.numbers.specs.declared.refusal.Refusal.TheVariants.{Cut, BadNumber, OutOfRange, BadName, TooMany, Trailing, UnknownId, AlreadyAnswered, WrongType, StaleRefresh, EchNotSent, AlreadyEnded, NoRoom}
 use Rattle.records.specs.Queries.{answered}
@@ -22,11 +22,9 @@ use Rattle.state.specs.declared.changes.Round.{Round}
 use Rattle.state.specs.declared.changes.Round.TheVariants.{First, Second}
 use Rattle.input.specs.declared.Input.{Input}
 use Rattle.input.specs.declared.Input.TheVariants as input
-use Rattle.input.specs.declared.Verdict.{Verdict}
-use Rattle.input.specs.declared.Verdict.TheVariants.{Accepted, Refused}
 use Rattle.input.specs.declared.Outcome.{Outcome}
 use Rattle.input.specs.declared.Outcome.TheVariants as outcome
-use Rattle.input.specs.Input.{with_answer, stored, record_at, attempt_at}
+use Rattle.input.specs.Input.{Verdict, with_answer, stored, record_at, attempt_at}
 
 -- how many records, and attempts, are in use
 abbrev pub records_in : Queries → ℕ
@@ -88,8 +86,8 @@ AnswerRefused q k id stale Trailing = ⊥
 AnswerRefused q k id stale NoRoom = ⊥
 
 abbrev pub AnswerSays : Queries → Kind → ℕ → Bool → Answer → Verdict → Type 0
-AnswerSays q k id stale a (Accepted c) = Answered q k id stale a c
-AnswerSays q k id stale a (Refused r) = AnswerRefused q k id stale r
+AnswerSays q k id stale a (Ok c) = Answered q k id stale a c
+AnswerSays q k id stale a (Err r) = AnswerRefused q k id stale r
 
 -- Results
 
@@ -150,8 +148,8 @@ ResultRefused on a id o Trailing = ⊥
 ResultRefused on a id o NoRoom = ⊥
 
 abbrev pub ResultSays : Bool → Attempts → ℕ → ℕ → Outcome → Verdict → Type 0
-ResultSays on a n id o (Accepted c) = Ended on a n id o c
-ResultSays on a n id o (Refused r) = ResultRefused on a id o r
+ResultSays on a n id o (Ok c) = Ended on a n id o c
+ResultSays on a n id o (Err r) = ResultRefused on a id o r
 
 -- the input that says how attempt id ended
 abbrev pub result_of : Outcome → ℕ → Input

@@ -1,13 +1,15 @@
 #![tactic(auto)]
-// An input whose body is sound (document 01, part 7): which refusal of 7 to 12 it gets, or what it changes.
-ghost use Rattle.std.specs.Prelude.{◌≡◌};
-ghost use Rattle.input.specs.Input.{in_flight, asked_of, tried_of, with_answer, is_failed, stored, first_answer, fresh_answer, answer_verdict, retry_verdict, outcome_verdict, end_verdict, result_verdict, verdict_of};
+// An input whose body is sound: which refusal of 7 to 12 it gets, or what it changes.
+ghost use Rattle.std.specs.Prelude.{◌≡◌, ◌<◌, IfSome};
+ghost use Rattle.input.specs.Verdicts.{sent};
+ghost use Rattle.input.specs.Input.{IsWithin, in_flight, asked_of, tried_of, with_answer, is_failed, stored, first_answer, fresh_answer, answer_verdict, retry_verdict, outcome_verdict, end_verdict, result_verdict, verdict_of};
 
 use numbers::refusal::Refusal;
 use records::queries::{Answer, Kind, Queries, Query, Refresh, is_answered, kind_number};
 use records::services::has_ech;
 use state::attempts::{Attempt, Attempts, State, with_state};
 use state::changes::{InputChange, Round};
+use state::members::in_use;
 
 // An input without the addresses, services and bytes that come beside it. An answer has its type, the query's id and whether it is stale.
 #[derive(Clone, Copy)]
@@ -20,11 +22,8 @@ pub enum Input {
     EchRetry(u64),
 }
 
-#[derive(Clone, Copy)]
-pub enum Verdict {
-    Accepted(InputChange),
-    Refused(Refusal),
-}
+// What an accepted input changes. A refusal carries no change (rule 5.2).
+pub type Verdict = Result<InputChange, Refusal>;
 
 // Whose id an answer has.
 #[derive(Clone, Copy)]
@@ -32,12 +31,6 @@ pub enum Asked {
     Nobody,
     Own(usize),
     Refresh(usize),
-}
-
-#[derive(Clone, Copy)]
-pub enum Tried {
-    Nobody,
-    At(usize),
 }
 
 // How an attempt ended.
@@ -59,58 +52,45 @@ fn is_in_flight(r: Refresh, id: u64) -> bool
 }
 
 // The record that has the id, as its own or as a refresh in flight.
-fn asked_of(queries: Queries, id: u64) -> Asked
-    ensures { result ≡ asked_of queries id }
+#[tactic(auto, using(crate::proofs::Search::asked_step, crate::proofs::Search::asked_end), unfolding(crate::specs::Input::asked_of))]
+fn asked_of(queries: &Queries, id: u64) -> Asked
+    ensures found { result ≡ asked_of queries.now id }
+    ensures inside { IsWithin 16 result }
 {
-    let n = queries.count;
-    let mut i: usize = 0;
-    while i < 16 {
-        if n <= i {
-            return Asked::Nobody;
-        }
-        let q = queries.list[i];
-        let r = q.refresh;
-        if is_in_flight(r, id) {
+    for (i, q) in in_use(&queries.list, queries.count).iter().enumerate() {
+        if is_in_flight(q.refresh, id) {
             return Asked::Refresh(i);
         }
         if q.id == id {
             return Asked::Own(i);
         }
-        i += 1;
     }
     Asked::Nobody
 }
 
-fn tried_of(attempts: Attempts, id: u64) -> Tried
-    ensures { result ≡ tried_of attempts id }
+// The place of the attempt that has the id.
+#[tactic(auto, using(crate::proofs::Search::tried_step, crate::proofs::Search::tried_end), unfolding(crate::specs::Input::tried_of))]
+fn tried_of(attempts: &Attempts, id: u64) -> Option<usize>
+    ensures found { result ≡ tried_of attempts.now id }
+    ensures inside { IfSome result (λ p. p < 32) }
 {
-    let n = attempts.count;
-    let mut i: usize = 0;
-    while i < 32 {
-        if n <= i {
-            return Tried::Nobody;
-        }
-        let a = attempts.list[i];
+    for (i, a) in in_use(&attempts.list, attempts.count).iter().enumerate() {
         if a.id == id {
-            return Tried::At(i);
+            return Some(i);
         }
-        i += 1;
     }
-    Tried::Nobody
+    None
 }
 
 // The record with an answer. After a refresh it is done.
 fn with_answer(q: Query, answer: Answer, stale: bool, refresh: Refresh) -> Query
     ensures { result ≡ with_answer q answer stale refresh }
 {
-    let k = q.kind;
     Query {
-        id: q.id,
-        kind: k,
-        name: q.name,
         stale,
         answer,
         refresh,
+        ..q
     }
 }
 
@@ -142,43 +122,46 @@ fn stored(p: usize, q: Query, answer: Answer, round: Round) -> InputChange
 }
 
 // "a first answer tests 8, 9"
+#[tactic(auto, unfolding(crate::specs::Input::first_answer))]
 fn first_answer(q: Query, p: usize, kind: Kind, stale: bool, answer: Answer) -> Verdict
     ensures { result ≡ first_answer q p kind stale answer }
 {
     let a = q.answer;
     let k = q.kind;
     if is_answered(a) {
-        return Verdict::Refused(Refusal::AlreadyAnswered);
+        return Err(Refusal::AlreadyAnswered);
     }
     if kind_number(k) != kind_number(kind) {
-        return Verdict::Refused(Refusal::WrongType);
+        return Err(Refusal::WrongType);
     }
     let r = with_answer(q, answer, stale, Refresh::Idle);
-    Verdict::Accepted(stored(p, r, answer, Round::First))
+    Ok(stored(p, r, answer, Round::First))
 }
 
 // "a refresh 9, 10": its answer takes the place and the moment of the stale one.
+#[tactic(auto, unfolding(crate::specs::Input::fresh_answer))]
 fn fresh_answer(q: Query, p: usize, kind: Kind, stale: bool, answer: Answer) -> Verdict
     ensures { result ≡ fresh_answer q p kind stale answer }
 {
     let k = q.kind;
     if kind_number(k) != kind_number(kind) {
-        return Verdict::Refused(Refusal::WrongType);
+        return Err(Refusal::WrongType);
     }
     if stale {
-        return Verdict::Refused(Refusal::StaleRefresh);
+        return Err(Refusal::StaleRefresh);
     }
     let r = with_answer(q, answer, false, Refresh::Done);
-    Verdict::Accepted(stored(p, r, answer, Round::Second))
+    Ok(stored(p, r, answer, Round::Second))
 }
 
 // An answer of a type to the query of an id.
-fn answer_verdict(queries: Queries, kind: Kind, id: u64, stale: bool, answer: Answer) -> Verdict
-    ensures { result ≡ answer_verdict queries kind id stale answer }
+#[tactic(auto, unfolding(crate::specs::Input::answer_verdict))]
+fn answer_verdict(queries: &Queries, kind: Kind, id: u64, stale: bool, answer: Answer) -> Verdict
+    ensures { result ≡ answer_verdict queries.now kind id stale answer }
 {
     let w = asked_of(queries, id);
     match w {
-        Asked::Nobody => Verdict::Refused(Refusal::UnknownId),
+        Asked::Nobody => Err(Refusal::UnknownId),
         Asked::Own(p) => {
             let q = queries.list[p];
             first_answer(q, p, kind, stale, answer)
@@ -190,37 +173,37 @@ fn answer_verdict(queries: Queries, kind: Kind, id: u64, stale: bool, answer: An
     }
 }
 
+// Whether the attempt carried ECH bytes.
+fn was_sent(on: bool, a: Attempt) -> bool
+    ensures { result ≡ sent on a }
+{
+    on && has_ech(a.endpoint.ech)
+}
+
 // An ECH retry on an attempt in progress. "on an attempt that is itself one" it "only marks it failed".
+#[tactic(auto, unfolding(crate::specs::Input::retry_verdict))]
 fn retry_verdict(on: bool, count: usize, p: usize, a: Attempt) -> Verdict
     ensures { result ≡ retry_verdict on count p a }
 {
-    let e = a.endpoint;
-    let sealed = e.ech;
-    if !on {
-        return Verdict::Refused(Refusal::EchNotSent);
-    }
-    if !has_ech(sealed) {
-        return Verdict::Refused(Refusal::EchNotSent);
+    if !was_sent(on, a) {
+        return Err(Refusal::EchNotSent);
     }
     let failed = with_state(a, State::Failed);
     if a.retry {
-        return Verdict::Accepted(InputChange::Ends(p, failed));
+        return Ok(InputChange::Ends(p, failed));
     }
     if 32 <= count {
-        return Verdict::Accepted(InputChange::Ends(p, failed));
+        return Ok(InputChange::Ends(p, failed));
     }
-    Verdict::Accepted(InputChange::Retries(p, failed, count))
+    Ok(InputChange::Retries(p, failed, count))
 }
 
 fn outcome_verdict(on: bool, count: usize, p: usize, a: Attempt, outcome: Outcome) -> Verdict
     ensures { result ≡ outcome_verdict on count p a outcome }
 {
     match outcome {
-        Outcome::Success => Verdict::Accepted(InputChange::Ends(
-            p,
-            with_state(a, State::Succeeded),
-        )),
-        Outcome::Failure => Verdict::Accepted(InputChange::Ends(p, with_state(a, State::Failed))),
+        Outcome::Success => Ok(InputChange::Ends(p, with_state(a, State::Succeeded))),
+        Outcome::Failure => Ok(InputChange::Ends(p, with_state(a, State::Failed))),
         Outcome::EchRetry => retry_verdict(on, count, p, a),
     }
 }
@@ -232,19 +215,20 @@ fn end_verdict(on: bool, count: usize, p: usize, a: Attempt, outcome: Outcome) -
     let s = a.state;
     match s {
         State::InProgress => outcome_verdict(on, count, p, a, outcome),
-        State::Succeeded => Verdict::Refused(Refusal::AlreadyEnded),
-        State::Failed => Verdict::Refused(Refusal::AlreadyEnded),
-        State::Cancelled => Verdict::Accepted(InputChange::Nothing),
+        State::Succeeded => Err(Refusal::AlreadyEnded),
+        State::Failed => Err(Refusal::AlreadyEnded),
+        State::Cancelled => Ok(InputChange::Nothing),
     }
 }
 
-fn result_verdict(on: bool, attempts: Attempts, count: usize, id: u64, outcome: Outcome) -> Verdict
-    ensures { result ≡ result_verdict on attempts count id outcome }
+#[tactic(auto, unfolding(crate::specs::Input::result_verdict))]
+fn result_verdict(on: bool, attempts: &Attempts, count: usize, id: u64, outcome: Outcome) -> Verdict
+    ensures { result ≡ result_verdict on attempts.now count id outcome }
 {
     let w = tried_of(attempts, id);
     match w {
-        Tried::Nobody => Verdict::Refused(Refusal::UnknownId),
-        Tried::At(p) => {
+        None => Err(Refusal::UnknownId),
+        Some(p) => {
             let a = attempts.list[p];
             end_verdict(on, count, p, a, outcome)
         }
@@ -261,6 +245,20 @@ pub fn verdict_of(
     now: u64,
 ) -> Verdict
     ensures { result ≡ verdict_of on queries attempts retries input now }
+{
+    verdict_in(on, &queries, &attempts, retries, input, now)
+}
+
+// The same of records and attempts that are lent: nothing is copied.
+pub fn verdict_in(
+    on: bool,
+    queries: &Queries,
+    attempts: &Attempts,
+    retries: usize,
+    input: Input,
+    now: u64,
+) -> Verdict
+    ensures { result ≡ verdict_of on queries.now attempts.now retries input now }
 {
     match input {
         Input::Fails(k, id, stale) => answer_verdict(queries, k, id, stale, Answer::Failed(now)),

@@ -1,5 +1,6 @@
 -- What is found by class is what is found with the bytes, and so is what is found one after the other; where nothing is looked for, nothing is
 -- found.
+use Rattle.std.specs.Prelude.{Some, None}
 use mathlib.Core.Path.{◌≡◌, refl, sym, ap, ◌∙◌}
 use mathlib.Core.Bool.{Bool, true, false, false≢true, ◌||◌}
 use Rattle.records.specs.Classes.{same_class}
@@ -17,13 +18,10 @@ use Rattle.listing.specs.Held.{Same}
 use Rattle.state.specs.declared.attempts.Attempts.{Attempts}
 use Rattle.state.specs.declared.attempts.Retries.{Retries}
 use Rattle.upcoming.specs.Alike.{alike_endpoints, alike_of, same_hosts_of, same_echs_of}
-use Rattle.upcoming.specs.Next.{Alike, next_retry, next_endpoint}
-use Rattle.upcoming.specs.Wanted.{wanted_by}
+use Rattle.upcoming.specs.Next.{Next, Alike, next_retry, next_endpoint}
+use Rattle.upcoming.specs.Wanted.{Wanted, wanted_by}
 use Rattle.upcoming.specs.declared.alike.Alike as classes
 use Rattle.starting.specs.declared.surveys.Kinds.{Kinds}
-use Rattle.upcoming.specs.declared.next.Next.{Next}
-use Rattle.upcoming.specs.declared.next.Next.TheVariants as next
-use Rattle.upcoming.specs.declared.wanted.Wanted.{Wanted}
 use Rattle.upcoming.proofs.Classed.{alike_same}
 use Rattle.machine.specs.declared.wish.Look.{Look}
 use Rattle.machine.specs.declared.wish.Found.{Found}
@@ -57,8 +55,8 @@ found_nothing same alike look k r l q d s a retries e =
 
 -- what is found one after the other, the next endpoint only where there is no retry, is what is found
 one_by_one : (r : Next) (on : Bool) (n : Next) (f : Found) → retry_found r (attempt_found (if_looked (looks_on on r) n) f) ≡ retry_found r (attempt_found (if_looked on n) f)
-one_by_one next.Nothing on n f = refl
-one_by_one (next.New e) on n f = refl
+one_by_one None on n f = refl
+one_by_one (Some e) on n f = refl
 
 pub found-by : (same : Same) (alike : Alike) (look : Look) (k : Kinds) (r : Rules) (l : Alts) (q : Queries) (d : Answers) (s : Services) (a : Attempts) (retries : Retries) {retry n : Next} {on : Bool} {f : Found} → retry ≡ if_looked look.retry (next_retry alike a retries) → on ≡ looks_on look.next retry → n ≡ if_looked on (next_endpoint alike r l q d s a same) → f ≡ retry_found retry (attempt_found n (other_found look.query (wanted_by k r l q s same))) → f ≡ found_by same alike look k r l q d s a retries
 unfolding found_by
@@ -66,3 +64,5 @@ found-by same alike look k r l q d s a retries {retry = retry} u o v w =
     w ∙ (ap (λ n. retry_found retry (attempt_found n (other_found look.query (wanted_by k r l q s same)))) (v ∙ ap (λ x. if_looked x (next_endpoint alike r l q d s a same)) o)
     ∙ (one_by_one retry look.next (next_endpoint alike r l q d s a same) _
     ∙ ap (λ x. retry_found x (attempt_found (if_looked look.next (next_endpoint alike r l q d s a same)) (other_found look.query (wanted_by k r l q s same)))) u))
+
+pub ruleset looking = (found-same, found_nothing, found-by)

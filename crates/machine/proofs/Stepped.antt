@@ -1,4 +1,5 @@
 -- The two calls over the whole machine: what leaves it as it was, when Full is given, and that no timer is 0.
+use Rattle.std.specs.Prelude.{Err}
 use Prim.Native.Nat.{ℕ}
 use mathlib.Core.Path.{◌≡◌, ap}
 use mathlib.Core.Bool.{true, false, ◌&&◌}
@@ -11,7 +12,6 @@ use Rattle.records.specs.Endpoints.{same_endpoint}
 use Rattle.state.specs.State.{no_attempt}
 use Rattle.state.specs.declared.Machine.{Machine}
 use Rattle.input.specs.declared.Input.{Input}
-use Rattle.input.specs.declared.Verdict.TheVariants.{Refused}
 use Rattle.machine.specs.declared.calls.Beside.{Beside}
 use Rattle.machine.specs.Output.{wish_of, wish_query, wish_attempt, granted}
 use Rattle.machine.specs.Steps.{called, fed, change_of, turn_of, output_step, judged, input_step}
@@ -20,7 +20,7 @@ use Rattle.machine.proofs.Wishes.{zero_timer, no-timer-of-zero}
 use Rattle.machine.proofs.Way.{found-way}
 
 -- "A refusal 1 to 12 changes nothing in the machine"
-pub refused-keeps : (m : Machine) (now : ℕ) (i : Input) (b : Beside) (e : Refusal) → judged m now i ≡ Refused e → (input_step m now i b).machine ≡ m
+pub refused-keeps : (m : Machine) (now : ℕ) (i : Input) (b : Beside) (e : Refusal) → judged m now i ≡ Err e → (input_step m now i b).machine ≡ m
 unfolding input_step
 refused-keeps m now i b e h = ap (λ v. fed m (change_of v) b) h
 

@@ -1,4 +1,5 @@
 -- The code's way is the rules': the wish from what is found, where only what may be there is looked for, is what the rules call for.
+use Rattle.std.specs.Prelude.{Option, Some, None}
 use Prim.Native.Nat.{ℕ, ◌+◌}
 use mathlib.Core.Path.{◌≡◌, refl, sym, ap, ◌∙◌}
 use mathlib.Core.Bool.{Bool, true, false, false≢true, cond, ◌||◌}
@@ -21,13 +22,8 @@ use Rattle.listing.specs.Held.{Same}
 use Rattle.state.specs.declared.attempts.Attempts.{Attempts}
 use Rattle.state.specs.declared.attempts.Retries.{Retries}
 use Rattle.starting.specs.Surveys.{tries_of, asks_of, hints_of}
-use Rattle.upcoming.specs.Wanted.{or_wanted, first_wanted, target_wanted, alt_wanted, origin_wanted, targets_wanted, alts_wanted, wanted_in, wanted_by, next_query}
-use Rattle.upcoming.specs.Next.{Alike, retry_endpoints, next_retry, next_endpoint}
-use Rattle.starting.specs.declared.surveys.Place.{Place}
-use Rattle.upcoming.specs.declared.next.Next.{Next}
-use Rattle.upcoming.specs.declared.next.Next.TheVariants as next
-use Rattle.upcoming.specs.declared.wanted.Wanted.{Wanted}
-use Rattle.upcoming.specs.declared.wanted.Wanted.TheVariants as wanted
+use Rattle.upcoming.specs.Wanted.{Wanted, or_wanted, first_wanted, target_wanted, alt_wanted, origin_wanted, targets_wanted, alts_wanted, wanted_in, wanted_by, next_query}
+use Rattle.upcoming.specs.Next.{Next, Alike, retry_endpoints, next_retry, next_endpoint}
 use Rattle.machine.specs.declared.calls.Survey.{Survey}
 use Rattle.machine.specs.declared.wish.Look.{Look}
 use Rattle.machine.specs.declared.wish.Found.{Found}
@@ -36,31 +32,31 @@ use Rattle.machine.specs.Steps.{survey_of}
 use Rattle.machine.specs.Output.{end_wish, rest_wish, query_wish, attempt_wish, retry_wish, gate, wish_by, no_look, has_others, look_of, retry_found, attempt_found, other_found, if_looked, found_by, origin_in, next_origin, wish_found, wish_from}
 
 -- the query: where nothing but the origin's can be wanted, none is looked for
-query-way : (on : Bool) (m : Mode) (o others : Wanted) (rest : Wish) → (on ≡ false → others ≡ wanted.Nothing) → wish_found (other_found on (wanted_in m o others)) (query_wish (origin_in m o) rest) ≡ query_wish (wanted_in m o others) rest
-query-way true mode.Ip (wanted.Query k p) others rest h = refl
-query-way true mode.Ip wanted.Nothing (wanted.Query k p) rest h = refl
-query-way true mode.Ip wanted.Nothing wanted.Nothing rest h = refl
-query-way false mode.Ip (wanted.Query k p) others rest h = refl
-query-way false mode.Ip wanted.Nothing others rest h = sym (ap (λ x. query_wish x rest) (h refl))
+query-way : (on : Bool) (m : Mode) (o others : Wanted) (rest : Wish) → (on ≡ false → others ≡ None) → wish_found (other_found on (wanted_in m o others)) (query_wish (origin_in m o) rest) ≡ query_wish (wanted_in m o others) rest
+query-way true mode.Ip (Some (k, p)) others rest h = refl
+query-way true mode.Ip None (Some (k, p)) rest h = refl
+query-way true mode.Ip None None rest h = refl
+query-way false mode.Ip (Some (k, p)) others rest h = refl
+query-way false mode.Ip None others rest h = sym (ap (λ x. query_wish x rest) (h refl))
 query-way true mode.Name o others rest h = refl
 query-way false mode.Name o others rest h = refl
-query-way true mode.NameWithHttpsRr (wanted.Query k p) others rest h = refl
-query-way true mode.NameWithHttpsRr wanted.Nothing others rest h = refl
+query-way true mode.NameWithHttpsRr (Some (k, p)) others rest h = refl
+query-way true mode.NameWithHttpsRr None others rest h = refl
 query-way false mode.NameWithHttpsRr o others rest h = refl
 
 attempt-way : (n : Next) (f : Found) (base rest : Wish) → wish_found f base ≡ rest → wish_found (attempt_found n f) base ≡ attempt_wish n rest
-attempt-way (next.New e) f base rest h = refl
-attempt-way next.Nothing f base rest h = h
+attempt-way (Some e) f base rest h = refl
+attempt-way None f base rest h = h
 
-retry-way : (on : Bool) (n : Next) (f : Found) (base rest : Wish) → (on ≡ false → n ≡ next.Nothing) → wish_found f base ≡ rest → wish_found (retry_found (if_looked on n) f) base ≡ retry_wish n rest
-retry-way true (next.New e) f base rest k h = refl
-retry-way true next.Nothing f base rest k h = h
+retry-way : (on : Bool) (n : Next) (f : Found) (base rest : Wish) → (on ≡ false → n ≡ None) → wish_found f base ≡ rest → wish_found (retry_found (if_looked on n) f) base ≡ retry_wish n rest
+retry-way true (Some e) f base rest k h = refl
+retry-way true None f base rest k h = h
 retry-way false n f base rest k h = h ∙ sym (ap (λ x. retry_wish x rest) (k refl))
 
-way : (won retry gated other : Bool) (look : Look) (first : Place) (nr ne : Next) (m : Mode) (o others : Wanted) (rest : Wish) → look ≡ cond won no_look (record { retry = retry; next = gated; query = other }) → (retry ≡ false → nr ≡ next.Nothing) → (other ≡ false → others ≡ wanted.Nothing) → cond won (end_wish first) (wish_found (retry_found (if_looked look.retry nr) (attempt_found (if_looked look.next ne) (other_found look.query (wanted_in m o others)))) (query_wish (origin_in m o) rest)) ≡ cond won (end_wish first) (retry_wish nr (attempt_wish (cond gated ne next.Nothing) (query_wish (wanted_in m o others) rest)))
+way : (won retry gated other : Bool) (look : Look) (first : Option ℕ) (nr ne : Next) (m : Mode) (o others : Wanted) (rest : Wish) → look ≡ cond won no_look (record { retry = retry; next = gated; query = other }) → (retry ≡ false → nr ≡ None) → (other ≡ false → others ≡ None) → cond won (end_wish first) (wish_found (retry_found (if_looked look.retry nr) (attempt_found (if_looked look.next ne) (other_found look.query (wanted_in m o others)))) (query_wish (origin_in m o) rest)) ≡ cond won (end_wish first) (retry_wish nr (attempt_wish (cond gated ne None) (query_wish (wanted_in m o others) rest)))
 way true retry gated other look first nr ne m o others rest l h k = refl
 way false retry gated other look first nr ne m o others rest l h k =
-    rw l (retry-way retry nr _ _ _ h (attempt-way (cond gated ne next.Nothing) _ _ _ (query-way other m o others rest k)))
+    rw l (retry-way retry nr _ _ _ h (attempt-way (cond gated ne None) _ _ _ (query-way other m o others rest k)))
 
 -- nothing is taken where the count is 0
 taken_none : {A : Type 0} (n : ℕ) (l : List A) → nat_lt 0 n ≡ false → take n l ≡ []
@@ -69,19 +65,19 @@ taken_none n l e = ap (λ k. take k l) (none n e)
     none : (k : ℕ) → nat_lt 0 k ≡ false → k ≡ 0
     none k h = omega (arith, ltb-false 0 k h)
 
-no-retry : (alike : Alike) (a : Attempts) (r : Retries) → nat_lt 0 r.count ≡ false → next_retry alike a r ≡ next.Nothing
+no-retry : (alike : Alike) (a : Attempts) (r : Retries) → nat_lt 0 r.count ≡ false → next_retry alike a r ≡ None
 unfolding next_retry retry_endpoints first_of
 no-retry alike a r e = rw (taken_none r.count r.list e)
 
-no_target : (r : Rules) (q : Queries) (s : Services) (same : Same) → nat_lt 0 s.count ≡ false → targets_wanted r q s same ≡ wanted.Nothing
+no_target : (r : Rules) (q : Queries) (s : Services) (same : Same) → nat_lt 0 s.count ≡ false → targets_wanted r q s same ≡ None
 unfolding targets_wanted first_wanted
 no_target r q s same e = ap (first_wanted (λ i. target_wanted r.preference q same (any_ech r.ech s)) 0) (taken_none s.count s.list e)
 
-no-alt : (r : Rules) (l : Alts) (q : Queries) (same : Same) → nat_lt 0 l.count ≡ false → alts_wanted r l q same ≡ wanted.Nothing
+no-alt : (r : Rules) (l : Alts) (q : Queries) (same : Same) → nat_lt 0 l.count ≡ false → alts_wanted r l q same ≡ None
 unfolding alts_wanted first_wanted
 no-alt r l q same e = ap (first_wanted (λ i x. alt_wanted r.preference q same (i + 1) x.host) 0) (taken_none l.count l.list e)
 
-neither : (a b : Bool) (v w : Wanted) → a || b ≡ false → (a ≡ false → v ≡ wanted.Nothing) → (b ≡ false → w ≡ wanted.Nothing) → or_wanted v w ≡ wanted.Nothing
+neither : (a b : Bool) (v w : Wanted) → a || b ≡ false → (a ≡ false → v ≡ None) → (b ≡ false → w ≡ None) → or_wanted v w ≡ None
 neither true b v w e h k = absurd (false≢true (sym e))
 neither false b v w e h k = ap (λ x. or_wanted x w) (h refl) ∙ k e
 
@@ -95,3 +91,5 @@ found-way same alike r t l q d s a retries now =
 pub wish-seen : (same : Same) (alike : Alike) (r : Rules) (t : Timing) (l : Alts) (q : Queries) (d : Answers) (s : Services) (a : Attempts) (retries : Retries) (now : ℕ) (seen : Survey) (found : Found) (w : Wish) → seen ≡ survey_of r t l.count q s a retries.count now → found ≡ found_by same alike seen.look seen.asks.asked r l q d s a retries → w ≡ wish_from r t seen.tries seen.asks found a.count now → w ≡ wish_by same alike r t l q d s a retries now
 unfolding survey_of
 wish-seen same alike r t l q d s a retries now seen found w e f v = v ∙ rw (f, e) (found-way same alike r t l q d s a retries now)
+
+pub ruleset seen = (wish-seen)

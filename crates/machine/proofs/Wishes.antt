@@ -1,4 +1,6 @@
 -- What every wish says: no timer of 0, and Failed exactly if nothing is unanswered and nothing else is wished.
+use Rattle.std.specs.Prelude.{Option, Some, None}
+use Rattle.upcoming.specs.Wanted.{Wanted}
 use Prim.Native.Nat.{ℕ}
 use mathlib.Core.Path.{◌≡◌, refl, ap, ◌∙◌}
 use mathlib.Core.Bool.{Bool, true, false, not, cond, ◌&&◌, ◌||◌}
@@ -12,10 +14,6 @@ use Rattle.state.specs.declared.attempts.Attempt.{Attempt}
 use Rattle.starting.specs.Starting.{attempt_left, resolution_left}
 use Rattle.starting.specs.declared.surveys.Tries.{Tries}
 use Rattle.starting.specs.declared.surveys.Asks.{Asks}
-use Rattle.starting.specs.declared.surveys.Place.{Place}
-use Rattle.starting.specs.declared.surveys.Place.TheVariants as place
-use Rattle.upcoming.specs.declared.wanted.Wanted.{Wanted}
-use Rattle.upcoming.specs.declared.wanted.Wanted.TheVariants as wanted
 use Rattle.machine.specs.declared.wish.Reason.{Reason}
 use Rattle.machine.specs.declared.wish.Found.{Found}
 use Rattle.machine.specs.declared.wish.Found.TheVariants as found
@@ -80,17 +78,17 @@ timer a r rest k = go (nat_lt 0 a) (nat_lt 0 r) refl refl
     go false true e f = ap not f
     go false false e f = k
 
-end : (p : Place) → zero_wish (end_wish p) ≡ false
-end (place.At p) = refl
-end place.Nowhere = refl
+end : (p : Option ℕ) → zero_wish (end_wish p) ≡ false
+end (Some p) = refl
+end None = refl
 
-refresh : (p : Place) (rest : Wish) → zero_wish rest ≡ false → zero_wish (refresh_wish p rest) ≡ false
-refresh (place.At p) rest k = refl
-refresh place.Nowhere rest k = k
+refresh : (p : Option ℕ) (rest : Wish) → zero_wish rest ≡ false → zero_wish (refresh_wish p rest) ≡ false
+refresh (Some p) rest k = refl
+refresh None rest k = k
 
 query : (w : Wanted) (rest : Wish) → zero_wish rest ≡ false → zero_wish (query_wish w rest) ≡ false
-query (wanted.Query n p) rest k = refl
-query wanted.Nothing rest k = k
+query (Some (n, p)) rest k = refl
+query None rest k = k
 
 found_first : (f : Found) (rest : Wish) → zero_wish rest ≡ false → zero_wish (wish_found f rest) ≡ false
 found_first (found.Retry e) rest k = refl
@@ -134,28 +132,28 @@ found_nothing (found.Query k p) = false
 found_nothing found.Nothing = true
 
 abbrev pub wants_nothing : Wanted → Bool
-wants_nothing wanted.Nothing = true
-wants_nothing (wanted.Query k p) = false
+wants_nothing None = true
+wants_nothing (Some (k, p)) = false
 
-abbrev pub is_nowhere : Place → Bool
-is_nowhere place.Nowhere = true
-is_nowhere (place.At p) = false
+abbrev pub is_nowhere : Option ℕ → Bool
+is_nowhere None = true
+is_nowhere (Some p) = false
 
 abbrev pub unanswered : Tries → Asks → Bool
 unanswered tries asks = asks.pending || (asks.flying || nat_lt 0 tries.active)
 
-fails : (won a r u : Bool) (first due : Place) (f : Found) (w : Wanted) (n m : ℕ) (x : Reason) → is_failed (cond won (end_wish first) (wish_found f (query_wish w (refresh_wish due (cond a (wish.AttemptTimer n) (cond r (wish.ResolutionTimer m) (cond u wish.Waiting (wish.Failed x)))))))) ≡ not won && (found_nothing f && (wants_nothing w && (is_nowhere due && (not a && (not r && not u)))))
-fails true a r u (place.At p) due f w n m x = refl
-fails true a r u place.Nowhere due f w n m x = refl
+fails : (won a r u : Bool) (first due : Option ℕ) (f : Found) (w : Wanted) (n m : ℕ) (x : Reason) → is_failed (cond won (end_wish first) (wish_found f (query_wish w (refresh_wish due (cond a (wish.AttemptTimer n) (cond r (wish.ResolutionTimer m) (cond u wish.Waiting (wish.Failed x)))))))) ≡ not won && (found_nothing f && (wants_nothing w && (is_nowhere due && (not a && (not r && not u)))))
+fails true a r u (Some p) due f w n m x = refl
+fails true a r u None due f w n m x = refl
 fails false a r u first due (found.Retry e) w n m x = refl
 fails false a r u first due (found.Attempt e) w n m x = refl
 fails false a r u first due (found.Query k p) w n m x = refl
-fails false a r u first due found.Nothing (wanted.Query k p) n m x = refl
-fails false a r u first (place.At p) found.Nothing wanted.Nothing n m x = refl
-fails false true r u first place.Nowhere found.Nothing wanted.Nothing n m x = refl
-fails false false true u first place.Nowhere found.Nothing wanted.Nothing n m x = refl
-fails false false false true first place.Nowhere found.Nothing wanted.Nothing n m x = refl
-fails false false false false first place.Nowhere found.Nothing wanted.Nothing n m x = refl
+fails false a r u first due found.Nothing (Some (k, p)) n m x = refl
+fails false a r u first (Some p) found.Nothing None n m x = refl
+fails false true r u first None found.Nothing None n m x = refl
+fails false false true u first None found.Nothing None n m x = refl
+fails false false false true first None found.Nothing None n m x = refl
+fails false false false false first None found.Nothing None n m x = refl
 
 -- Failed exactly if no attempt has won, nothing else is wished, and no query, refresh or attempt is unanswered
 pub failed-exactly : (r : Rules) (t : Timing) (tries : Tries) (asks : Asks) (f : Found) (count now : ℕ) → is_failed (wish_from r t tries asks f count now) ≡ not tries.won && (found_nothing f && (wants_nothing (next_origin r asks) && (is_nowhere asks.due && (not (nat_lt 0 (attempt_left t tries now)) && (not (nat_lt 0 (resolution_left t asks now)) && not (unanswered tries asks))))))

@@ -1,5 +1,5 @@
 -- Output (document 01, part 6): what the rules call for, in the order of `process_output_inner`, and what is given.
-use Rattle.std.specs.Prelude.{ℕ, Bool, true, false, cond, ◌||◌, nat_lt, nat_le, get_or}
+use Rattle.std.specs.Prelude.{Option, Some, None, ℕ, Bool, true, false, cond, ◌||◌, nat_lt, nat_le, get_or}
 use Rattle.pacing.specs.Ids.{next_id}
 use Rattle.pacing.specs.declared.id.IdGenerator.{IdGenerator}
 use Rattle.records.specs.Names.{same_at}
@@ -28,18 +28,12 @@ use Rattle.state.specs.declared.attempts.Retries.{Retries}
 use Rattle.state.specs.declared.changes.CallChange.TheVariants as change
 use Rattle.starting.specs.Surveys.{tries_of, asks_of, hints_of}
 use Rattle.starting.specs.Starting.{attempt_left, resolution_left, may_start}
-use Rattle.upcoming.specs.Wanted.{origin_wanted, wanted_by, next_query}
-use Rattle.upcoming.specs.Next.{Alike, next_retry, next_endpoint}
+use Rattle.upcoming.specs.Wanted.{Wanted, origin_wanted, wanted_by, next_query}
+use Rattle.upcoming.specs.Next.{Next, Alike, next_retry, next_endpoint}
 use Rattle.starting.specs.declared.surveys.Tries.{Tries}
 use Rattle.starting.specs.declared.surveys.Asks.{Asks}
 use Rattle.starting.specs.declared.surveys.Hinted.{Hinted}
 use Rattle.starting.specs.declared.surveys.Kinds.{Kinds}
-use Rattle.starting.specs.declared.surveys.Place.{Place}
-use Rattle.starting.specs.declared.surveys.Place.TheVariants as place
-use Rattle.upcoming.specs.declared.next.Next.{Next}
-use Rattle.upcoming.specs.declared.next.Next.TheVariants as next
-use Rattle.upcoming.specs.declared.wanted.Wanted.{Wanted}
-use Rattle.upcoming.specs.declared.wanted.Wanted.TheVariants as wanted
 use Rattle.machine.specs.declared.wish.Reason.{Reason}
 use Rattle.machine.specs.declared.wish.Reason.TheVariants.{Dns, Connection}
 use Rattle.machine.specs.declared.wish.Look.{Look}
@@ -55,9 +49,9 @@ use Rattle.machine.specs.declared.grant.Turn.{Turn}
 -- The wish
 
 -- "cancel in list order, then Succeeded on every call"
-abbrev pub end_wish : Place → Wish
-end_wish (place.At p) = wish.Cancel p
-end_wish place.Nowhere = wish.Succeeded
+abbrev pub end_wish : Option ℕ → Wish
+end_wish (Some p) = wish.Cancel p
+end_wish None = wish.Succeeded
 
 -- "connection if any attempt was made, else DNS"
 unfoldable pub reason_of : ℕ → Reason
@@ -71,25 +65,25 @@ last_wish tries asks count = cond (asks.pending || (asks.flying || nat_lt 0 trie
 unfoldable pub timer_wish : ℕ → ℕ → Wish → Wish
 timer_wish attempt resolution rest = cond (nat_lt 0 attempt) (wish.AttemptTimer attempt) (cond (nat_lt 0 resolution) (wish.ResolutionTimer resolution) rest)
 
-abbrev pub refresh_wish : Place → Wish → Wish
-refresh_wish (place.At p) rest = wish.Refresh p
-refresh_wish place.Nowhere rest = rest
+abbrev pub refresh_wish : Option ℕ → Wish → Wish
+refresh_wish (Some p) rest = wish.Refresh p
+refresh_wish None rest = rest
 
 -- what comes after the queries
 abbrev pub rest_wish : Timing → Tries → Asks → ℕ → ℕ → Wish
 rest_wish t tries asks count now = refresh_wish asks.due (timer_wish (attempt_left t tries now) (resolution_left t asks now) (last_wish tries asks count))
 
 abbrev pub query_wish : Wanted → Wish → Wish
-query_wish (wanted.Query k p) rest = wish.Query k p
-query_wish wanted.Nothing rest = rest
+query_wish (Some (k, p)) rest = wish.Query k p
+query_wish None rest = rest
 
 abbrev pub attempt_wish : Next → Wish → Wish
-attempt_wish (next.New e) rest = wish.Attempt e
-attempt_wish next.Nothing rest = rest
+attempt_wish (Some e) rest = wish.Attempt e
+attempt_wish None rest = rest
 
 abbrev pub retry_wish : Next → Wish → Wish
-retry_wish (next.New e) rest = wish.Retry e
-retry_wish next.Nothing rest = rest
+retry_wish (Some e) rest = wish.Retry e
+retry_wish None rest = rest
 
 -- the gate: no attempt in progress is within the delay, and attempts may start
 unfoldable pub gate : Rules → Timing → Tries → Asks → Hinted → ℕ → Bool
@@ -100,7 +94,7 @@ unfoldable pub wish_by : Same → Alike → Rules → Timing → Alts → Querie
 wish_by same alike r t l q d s a retries now =
     cond (tries_of a).won (end_wish (tries_of a).first)
     (retry_wish (next_retry alike a retries)
-    (attempt_wish (cond (gate r t (tries_of a) (asks_of q) (hints_of s) now) (next_endpoint alike r l q d s a same) next.Nothing)
+    (attempt_wish (cond (gate r t (tries_of a) (asks_of q) (hints_of s) now) (next_endpoint alike r l q d s a same) None)
     (query_wish (next_query r l q s same)
     (rest_wish t (tries_of a) (asks_of q) a.count now))))
 
@@ -131,27 +125,27 @@ abbrev pub looks : Look → Bool
 looks l = l.retry || (l.next || l.query)
 
 abbrev pub retry_found : Next → Found → Found
-retry_found (next.New e) rest = found.Retry e
-retry_found next.Nothing rest = rest
+retry_found (Some e) rest = found.Retry e
+retry_found None rest = rest
 
 abbrev pub attempt_found : Next → Found → Found
-attempt_found (next.New e) rest = found.Attempt e
-attempt_found next.Nothing rest = rest
+attempt_found (Some e) rest = found.Attempt e
+attempt_found None rest = rest
 
 abbrev pub query_found : Wanted → Found
-query_found (wanted.Query k p) = found.Query k p
-query_found wanted.Nothing = found.Nothing
+query_found (Some (k, p)) = found.Query k p
+query_found None = found.Nothing
 
 abbrev pub other_found : Bool → Wanted → Found
 other_found on w = cond on (query_found w) found.Nothing
 
 abbrev pub if_looked : Bool → Next → Next
-if_looked on n = cond on n next.Nothing
+if_looked on n = cond on n None
 
 -- the next endpoint is looked for only where no retry was found
 abbrev pub looks_on : Bool → Next → Bool
-looks_on on next.Nothing = on
-looks_on on (next.New e) = false
+looks_on on None = on
+looks_on on (Some e) = false
 
 -- where records of those types were asked for
 unfoldable pub found_by : Same → Alike → Look → Kinds → Rules → Alts → Queries → Answers → Services → Attempts → Retries → Found
@@ -162,7 +156,7 @@ found_by same alike look k r l q d s a retries =
 -- the origin's query; mode `Name` wants none
 abbrev pub origin_in : Mode → Wanted → Wanted
 origin_in mode.Ip w = w
-origin_in mode.Name w = wanted.Nothing
+origin_in mode.Name w = None
 origin_in mode.NameWithHttpsRr w = w
 
 unfoldable pub next_origin : Rules → Asks → Wanted

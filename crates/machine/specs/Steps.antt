@@ -1,5 +1,6 @@
 -- The two calls over the whole machine.
-use Rattle.std.specs.Prelude.{ℕ}
+use Rattle.std.specs.Prelude.{Result, Ok, Err, ℕ}
+use Rattle.numbers.specs.declared.refusal.Refusal.{Refusal}
 use Rattle.records.specs.declared.rules.Rules.{Rules}
 use Rattle.records.specs.declared.rules.Timing.{Timing}
 use Rattle.records.specs.declared.queries.Queries.{Queries}
@@ -10,19 +11,19 @@ use Rattle.state.specs.declared.changes.CallChange.{CallChange}
 use Rattle.state.specs.declared.changes.InputChange.{InputChange}
 use Rattle.state.specs.declared.changes.InputChange.TheVariants.{Nothing}
 use Rattle.starting.specs.Surveys.{tries_of, asks_of, hints_of}
-use Rattle.input.specs.Input.{verdict_of}
+use Rattle.input.specs.Input.{Verdict, verdict_of}
 use Rattle.input.specs.declared.Input.{Input}
-use Rattle.input.specs.declared.Verdict.{Verdict}
-use Rattle.input.specs.declared.Verdict.TheVariants as verdict
 use Rattle.machine.specs.declared.calls.Beside.{Beside}
 use Rattle.machine.specs.declared.calls.Survey.{Survey}
 use Rattle.machine.specs.declared.calls.OutputStep.{OutputStep}
 use Rattle.machine.specs.declared.calls.InputStep.{InputStep}
-use Rattle.machine.specs.declared.calls.Taken.{Taken}
-use Rattle.machine.specs.declared.calls.Taken.TheVariants as taken
 use Rattle.machine.specs.declared.grant.Turn.{Turn}
 use Rattle.machine.specs.Output.{look_of, wish_of, granted}
 use Rattle.after.specs.After.{queries_called, attempts_called, ids_called, queries_fed, attempts_fed, retries_fed, answers_fed, services_fed, names_fed, echs_fed}
+
+-- whether an input was accepted
+abbrev pub Taken : Type 0
+Taken = Result (Unit {0}) Refusal
 
 -- the machine after a change that a call makes, and after one that an input makes
 abbrev pub called : Machine → CallChange → Machine
@@ -75,12 +76,12 @@ unfoldable pub output_step : Machine → ℕ → OutputStep
 output_step m now = record { output = (turn_of m now).output; machine = called m (turn_of m now).change }
 
 abbrev pub change_of : Verdict → InputChange
-change_of (verdict.Accepted c) = c
-change_of (verdict.Refused e) = Nothing
+change_of (Ok c) = c
+change_of (Err e) = Nothing
 
 abbrev pub taken_of : Verdict → Taken
-taken_of (verdict.Accepted c) = taken.Accepted
-taken_of (verdict.Refused e) = taken.Refused e
+taken_of (Ok c) = Ok tt
+taken_of (Err e) = Err e
 
 -- what becomes of an input at a moment
 unfoldable pub judged : Machine → ℕ → Input → Verdict

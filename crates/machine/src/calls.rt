@@ -1,4 +1,4 @@
-// The two calls over the whole machine, which goes in by value and comes back.
+// The two calls over the whole machine: on one that is lent, and on one that goes in by value and comes back.
 ghost use Rattle.std.specs.Prelude.{◌≡◌, get_or};
 ghost use Rattle.records.specs.Names.{same_at};
 ghost use Rattle.records.specs.Queries.{no_query};
@@ -13,16 +13,16 @@ use after::{
     TargetEchs, TargetNames, answers_fed, attempts_called, attempts_fed, echs_fed, ids_called,
     names_fed, queries_called, queries_fed, retries_fed, services_fed,
 };
-use input::{Input, Verdict, verdict_of};
+use input::{Input, Verdict, verdict_in};
 use numbers::refusal::Refusal;
 use pacing::id::IdGenerator;
-use records::names::{Ech, Echs, Names};
-use records::queries::{Addresses, Answers, Queries, Query, no_query};
+use records::names::Ech;
+use records::queries::{Addresses, Queries, Query, no_query};
 use records::rules::{Alts, Rules, Timing};
 use records::services::Services;
 use starting::surveys::{Asks, Tries, asks_of, hints_of, tries_of};
 use state::Machine;
-use state::attempts::{Attempt, Attempts, Retries, no_attempt};
+use state::attempts::{Attempt, Attempts, no_attempt};
 use state::changes::InputChange;
 use upcoming::classes::alike_of;
 
@@ -45,11 +45,7 @@ pub struct OutputStep {
 }
 
 // Whether an input was accepted.
-#[derive(Clone, Copy)]
-pub enum Taken {
-    Accepted,
-    Refused(Refusal),
-}
+pub type Taken = Result<(), Refusal>;
 
 #[derive(Clone, Copy)]
 pub struct InputStep {
@@ -66,31 +62,29 @@ pub struct Survey {
 }
 
 // What is found among the records. The classes of names and ECH bytes are worked out only where something is looked for.
-fn found_in(
-    look: Look,
-    rules: Rules,
-    alts: Alts,
-    queries: Queries,
-    answers: Answers,
-    services: Services,
-    attempts: Attempts,
-    retries: Retries,
-    asks: Asks,
-    names: Names,
-    echs: Echs,
-) -> Found
-    ensures { result ≡ found_by (same_at names) (same_endpoint names echs) look asks.asked rules alts queries answers services attempts retries }
+#[tactic(auto, using(crate::proofs::Looking::looking))]
+fn found_in(m: &Machine, look: Look, asks: Asks) -> Found
+    ensures { result ≡ found_by (same_at m.now.names) (same_endpoint m.now.names m.now.echs) look asks.asked m.now.rules m.now.alts m.now.queries m.now.answers m.now.services m.now.attempts m.now.retries }
 {
     if !looks(look) {
         return Found::Nothing;
     }
-    let alike = alike_of(names, echs);
     found_of(
-        look, rules, alts, queries, answers, services, attempts, retries, asks, alike,
+        look,
+        m.rules,
+        m.alts,
+        m.queries,
+        m.answers,
+        m.services,
+        m.attempts,
+        m.retries,
+        asks,
+        alike_of(m.names, m.echs),
     )
 }
 
 // With so many alternative services and retries.
+#[tactic(auto, unfolding(crate::specs::Steps::survey_of))]
 pub fn survey_of(
     rules: Rules,
     timing: Timing,
@@ -123,22 +117,23 @@ pub fn survey_of(
 fn query_at(queries: Queries, p: usize) -> Query
     ensures { result ≡ get_or queries.list p no_query }
 {
-    if p < 16 {
-        return queries.list[p];
+    match queries.list.get(p) {
+        Some(q) => *q,
+        None => no_query(),
     }
-    no_query()
 }
 
 fn attempt_at(attempts: Attempts, p: usize) -> Attempt
     ensures { result ≡ get_or attempts.list p no_attempt }
 {
-    if p < 32 {
-        return attempts.list[p];
+    match attempts.list.get(p) {
+        Some(a) => *a,
+        None => no_attempt(),
     }
-    no_attempt()
 }
 
 // What is given for a wish.
+#[tactic(auto, unfolding(crate::specs::Output::granted))]
 pub fn turn_of(queries: Queries, attempts: Attempts, ids: IdGenerator, w: Wish, now: u64) -> Turn
     ensures { result ≡ granted queries attempts ids w now }
 {
@@ -147,9 +142,11 @@ pub fn turn_of(queries: Queries, attempts: Attempts, ids: IdGenerator, w: Wish, 
     grant_of(queries.count, attempts.count, q, a, ids, w, now)
 }
 
-// A call at a moment. It changes ids, query records and attempts at most.
-pub fn process_output(m: Machine, now: u64) -> OutputStep
-    ensures { result ≡ output_step m now }
+// A call at a moment, on a machine that is lent. It changes ids, query records and attempts at most.
+#[tactic(auto, unfolding(crate::specs::Steps::output_step, crate::specs::Steps::turn_of, crate::specs::Output::wish_of), using(crate::proofs::Way::seen))]
+pub fn call(m: &mut Machine, now: u64) -> Output
+    ensures said { result ≡ (output_step m.old now).output }
+    ensures after { m.new ≡ (output_step m.old now).machine }
 {
     let seen = survey_of(
         m.rules,
@@ -161,24 +158,29 @@ pub fn process_output(m: Machine, now: u64) -> OutputStep
         m.retries.count,
         now,
     );
-    let tries = seen.tries;
-    let asks = seen.asks;
-    let look = seen.look;
-    let found = found_in(
-        look, m.rules, m.alts, m.queries, m.answers, m.services, m.attempts, m.retries, asks,
-        m.names, m.echs,
+    let found = found_in(m, seen.look, seen.asks);
+    let w = wish_of(
+        m.rules,
+        m.timing,
+        seen.tries,
+        seen.asks,
+        found,
+        m.attempts.count,
+        now,
     );
-    let w = wish_of(m.rules, m.timing, tries, asks, found, m.attempts.count, now);
     let turn = turn_of(m.queries, m.attempts, m.ids, w, now);
-    let output = turn.output;
-    let change = turn.change;
-    let ids = ids_called(m.ids, change);
-    let queries = queries_called(m.queries, change);
-    let attempts = attempts_called(m.attempts, change);
+    m.ids = ids_called(m.ids, turn.change);
+    m.queries = queries_called(m.queries, turn.change);
+    m.attempts = attempts_called(m.attempts, turn.change);
+    turn.output
+}
+
+// The same call over a machine that goes in by value and comes back.
+pub fn process_output(m: Machine, now: u64) -> OutputStep
+    ensures { result ≡ output_step m now }
+{
     let mut machine = m;
-    machine.ids = ids;
-    machine.queries = queries;
-    machine.attempts = attempts;
+    let output = call(&mut machine, now);
     OutputStep { output, machine }
 }
 
@@ -187,8 +189,8 @@ pub fn change_of(v: Verdict) -> InputChange
     ensures { result ≡ change_of v }
 {
     match v {
-        Verdict::Accepted(c) => c,
-        Verdict::Refused(_) => InputChange::Nothing,
+        Ok(c) => c,
+        Err(_) => InputChange::Nothing,
     }
 }
 
@@ -196,41 +198,40 @@ pub fn taken_of(v: Verdict) -> Taken
     ensures { result ≡ taken_of v }
 {
     match v {
-        Verdict::Accepted(_) => Taken::Accepted,
-        Verdict::Refused(e) => Taken::Refused(e),
+        Ok(_) => Ok(()),
+        Err(e) => Err(e),
     }
 }
 
-// An input at a moment, with what comes beside it.
-pub fn process_input(m: Machine, now: u64, input: Input, beside: Beside) -> InputStep
-    ensures { result ≡ input_step m now input beside }
+// An input at a moment, with what comes beside it, on a machine that is lent.
+#[tactic(auto, unfolding(crate::specs::Steps::input_step, crate::specs::Steps::judged))]
+pub fn feed(m: &mut Machine, now: u64, input: Input, beside: &Beside) -> Taken
+    ensures taken { result ≡ (input_step m.old now input beside.now).taken }
+    ensures after { m.new ≡ (input_step m.old now input beside.now).machine }
 {
-    let verdict = verdict_of(
+    let verdict = verdict_in(
         m.rules.ech,
-        m.queries,
-        m.attempts,
+        &m.queries,
+        &m.attempts,
         m.retries.count,
         input,
         now,
     );
     let change = change_of(verdict);
-    let queries = queries_fed(m.queries, change);
-    let answers = answers_fed(m.answers, change, beside.addresses);
-    let services = services_fed(m.services, change, beside.services);
-    let attempts = attempts_fed(m.attempts, change);
-    let retries = retries_fed(m.retries, change);
-    let names = names_fed(m.names, change, beside.names);
-    let echs = echs_fed(m.echs, change, beside.echs, beside.retry);
+    m.queries = queries_fed(m.queries, change);
+    m.answers = answers_fed(m.answers, change, beside.addresses);
+    m.services = services_fed(m.services, change, beside.services);
+    m.attempts = attempts_fed(m.attempts, change);
+    m.retries = retries_fed(m.retries, change);
+    m.names = names_fed(m.names, change, beside.names);
+    m.echs = echs_fed(m.echs, change, beside.echs, beside.retry);
+    taken_of(verdict)
+}
+
+pub fn process_input(m: Machine, now: u64, input: Input, beside: Beside) -> InputStep
+    ensures { result ≡ input_step m now input beside }
+{
     let mut machine = m;
-    machine.queries = queries;
-    machine.answers = answers;
-    machine.services = services;
-    machine.attempts = attempts;
-    machine.retries = retries;
-    machine.names = names;
-    machine.echs = echs;
-    InputStep {
-        taken: taken_of(verdict),
-        machine,
-    }
+    let taken = feed(&mut machine, now, input, &beside);
+    InputStep { taken, machine }
 }

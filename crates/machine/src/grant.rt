@@ -65,15 +65,9 @@ fn new_query(id: u64, kind: Kind, name: u8) -> Query
 fn refreshed(q: Query, id: u64) -> Query
     ensures { result ≡ refreshed q id }
 {
-    let k = q.kind;
-    let a = q.answer;
     Query {
-        id: q.id,
-        kind: k,
-        name: q.name,
-        stale: q.stale,
-        answer: a,
         refresh: Refresh::InFlight(id),
+        ..q
     }
 }
 
@@ -94,13 +88,13 @@ fn query_grant(count: usize, id: u64, kind: Kind, name: u8) -> Turn
 fn refresh_grant(q: Query, id: u64, p: usize) -> Turn
     ensures { result ≡ refresh_grant q id p }
 {
-    let k = q.kind;
     Turn {
-        output: Output::Query(id, k, false, q.name),
+        output: Output::Query(id, q.kind, false, q.name),
         change: CallChange::Asks(p, refreshed(q, id)),
     }
 }
 
+#[tactic(auto, unfolding(crate::specs::Output::attempt_grant))]
 fn attempt_grant(count: usize, id: u64, retry: bool, e: Endpoint, now: u64) -> Turn
     ensures { result ≡ attempt_grant count id retry e now }
 {
@@ -127,16 +121,8 @@ pub fn wish_query(w: Wish) -> usize
     ensures { result ≡ wish_query w }
 {
     match w {
-        Wish::Cancel(_) => 0,
-        Wish::Succeeded => 0,
-        Wish::Retry(_) => 0,
-        Wish::Attempt(_) => 0,
-        Wish::Query(_, _) => 0,
         Wish::Refresh(p) => p,
-        Wish::AttemptTimer(_) => 0,
-        Wish::ResolutionTimer(_) => 0,
-        Wish::Failed(_) => 0,
-        Wish::Waiting => 0,
+        _ => 0,
     }
 }
 
@@ -145,20 +131,13 @@ pub fn wish_attempt(w: Wish) -> usize
 {
     match w {
         Wish::Cancel(p) => p,
-        Wish::Succeeded => 0,
-        Wish::Retry(_) => 0,
-        Wish::Attempt(_) => 0,
-        Wish::Query(_, _) => 0,
-        Wish::Refresh(_) => 0,
-        Wish::AttemptTimer(_) => 0,
-        Wish::ResolutionTimer(_) => 0,
-        Wish::Failed(_) => 0,
-        Wish::Waiting => 0,
+        _ => 0,
     }
 }
 
 // What is given, with so many records and attempts; q and a are those that the wish is about. An id is used exactly by a query, a refresh and
 // an attempt.
+#[tactic(auto, unfolding(crate::specs::Output::grant_of))]
 pub fn grant_of(
     asked: usize,
     tried: usize,

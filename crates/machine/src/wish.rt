@@ -13,7 +13,7 @@ use records::queries::{Answers, Kind, Queries};
 use records::rules::{Alts, Mode, Rules, Timing};
 use records::services::Services;
 use starting::pace::{attempt_left, may_start, resolution_left};
-use starting::surveys::{Asks, Hinted, Place, Tries, either};
+use starting::surveys::{Asks, Hinted, Tries, either};
 use state::attempts::{Attempts, Retries};
 use upcoming::alike::Alike;
 use upcoming::next::{Next, next_endpoint, next_retry};
@@ -47,12 +47,13 @@ fn end_wish(tries: Tries) -> Wish
 {
     let first = tries.first;
     match first {
-        Place::At(p) => Wish::Cancel(p),
-        Place::Nowhere => Wish::Succeeded,
+        Some(p) => Wish::Cancel(p),
+        None => Wish::Succeeded,
     }
 }
 
 // "connection if any attempt was made, else DNS"
+#[tactic(auto, unfolding(crate::specs::Output::reason_of))]
 fn reason_of(count: usize) -> Reason
     ensures { result ≡ reason_of count }
 {
@@ -63,6 +64,7 @@ fn reason_of(count: usize) -> Reason
 }
 
 // (H) "Failed exactly if no query, refresh or attempt is unanswered".
+#[tactic(auto, unfolding(crate::specs::Output::last_wish))]
 fn last_wish(tries: Tries, asks: Asks, count: usize) -> Wish
     ensures { result ≡ last_wish tries asks count }
 {
@@ -79,6 +81,7 @@ fn last_wish(tries: Tries, asks: Asks, count: usize) -> Wish
 }
 
 // "A timer of 0 isn't given."
+#[tactic(auto, unfolding(crate::specs::Output::timer_wish))]
 fn timer_wish(timing: Timing, tries: Tries, asks: Asks, count: usize, now: u64) -> Wish
     ensures { result ≡ timer_wish (attempt_left timing tries now) (resolution_left timing asks now) (last_wish tries asks count) }
 {
@@ -99,8 +102,8 @@ fn rest_wish(timing: Timing, tries: Tries, asks: Asks, count: usize, now: u64) -
 {
     let due = asks.due;
     match due {
-        Place::At(p) => Wish::Refresh(p),
-        Place::Nowhere => timer_wish(timing, tries, asks, count, now),
+        Some(p) => Wish::Refresh(p),
+        None => timer_wish(timing, tries, asks, count, now),
     }
 }
 
@@ -122,6 +125,7 @@ pub enum Found {
 }
 
 // Whether the gate is open: no attempt in progress is within the delay, and attempts may start.
+#[tactic(auto, unfolding(crate::specs::Output::gate))]
 fn is_open_gate(
     rules: Rules,
     timing: Timing,
@@ -148,6 +152,7 @@ fn has_others(services: usize, alts: usize) -> bool
 }
 
 // What to look for, with so many retries, services and alternative services.
+#[tactic(auto, unfolding(crate::specs::Output::look_of))]
 pub fn look_of(
     rules: Rules,
     timing: Timing,
@@ -185,8 +190,8 @@ fn found_query(w: Wanted) -> Found
     ensures { result ≡ query_found w }
 {
     match w {
-        Wanted::Nothing => Found::Nothing,
-        Wanted::Query(k, p) => Found::Query(k, p),
+        None => Found::Nothing,
+        Some((k, p)) => Found::Query(k, p),
     }
 }
 
@@ -197,7 +202,7 @@ pub fn retry_next(on: bool, attempts: Attempts, retries: Retries, alike: Alike) 
     if on {
         return next_retry(attempts, retries, alike);
     }
-    Next::Nothing
+    None
 }
 
 pub fn endpoint_next(
@@ -215,7 +220,7 @@ pub fn endpoint_next(
     if on {
         return next_endpoint(rules, alts, queries, answers, services, attempts, alike);
     }
-    Next::Nothing
+    None
 }
 
 fn query_found(
@@ -240,8 +245,8 @@ pub fn looks_on(on: bool, retry: Next) -> bool
     ensures { result ≡ looks_on on retry }
 {
     match retry {
-        Next::Nothing => on,
-        Next::New(_) => false,
+        None => on,
+        Some(_) => false,
     }
 }
 
@@ -260,15 +265,16 @@ pub fn first_found(
     ensures { result ≡ retry_found retry (attempt_found next (other_found on (wanted_by asks.asked rules alts queries services (same_class same)))) }
 {
     match retry {
-        Next::Nothing => match next {
-            Next::Nothing => query_found(on, rules, alts, queries, services, asks, same),
-            Next::New(e) => Found::Attempt(e),
+        None => match next {
+            None => query_found(on, rules, alts, queries, services, asks, same),
+            Some(e) => Found::Attempt(e),
         },
-        Next::New(e) => Found::Retry(e),
+        Some(e) => Found::Retry(e),
     }
 }
 
 // What is found, in that order.
+#[tactic(auto, using(crate::proofs::Looking::looking))]
 pub fn found_of(
     look: Look,
     rules: Rules,
@@ -293,6 +299,7 @@ pub fn found_of(
 }
 
 // The query for the origin; mode `Name` wants none.
+#[tactic(auto, unfolding(crate::specs::Output::next_origin))]
 fn next_origin(rules: Rules, asks: Asks) -> Wanted
     ensures { result ≡ next_origin rules asks }
 {
@@ -300,7 +307,7 @@ fn next_origin(rules: Rules, asks: Asks) -> Wanted
     let k = asks.asked;
     match m {
         Mode::Ip => origin_wanted(rules, k),
-        Mode::Name => Wanted::Nothing,
+        Mode::Name => None,
         Mode::NameWithHttpsRr => origin_wanted(rules, k),
     }
 }
@@ -318,12 +325,13 @@ fn origin_wish(
 {
     let w = next_origin(rules, asks);
     match w {
-        Wanted::Nothing => rest_wish(timing, tries, asks, count, now),
-        Wanted::Query(k, p) => Wish::Query(k, p),
+        None => rest_wish(timing, tries, asks, count, now),
+        Some((k, p)) => Wish::Query(k, p),
     }
 }
 
 // What the rules call for: of attempts and records what the surveys say, what was found, and how many attempts there are.
+#[tactic(auto, unfolding(crate::specs::Output::wish_from))]
 pub fn wish_of(
     rules: Rules,
     timing: Timing,

@@ -8,7 +8,7 @@ use native.Mathlib.Omega.{arith}
 use lib.Dec.{eqb as nat_eq}
 use borrow.Author.Tests.{eqb-true, eq-eqb}
 use Rattle.records.specs.Numbers.{rank_number}
-use Rattle.records.specs.Names.{host_at, ech_bytes_at}
+use Rattle.records.specs.Names.{same_bytes, host_at, ech_bytes_at}
 use Rattle.records.specs.Endpoints.{ShownTarget, four, six, host, Shown, shown_target, shown_ech, shown, same_target, same_ech, same_shown, same_endpoint, same_numbers, same_sealed, same_head, same_hosts, same_echs}
 use Rattle.records.specs.declared.names.Names.{Names}
 use Rattle.records.specs.declared.names.Echs.{Echs}
@@ -128,3 +128,10 @@ same-to-shown names echs a b e = equal-shown (shown names echs a) (shown names e
 pub shown-to-same : (names : Names) (echs : Echs) (a b : Endpoint) → shown names echs a ≡ shown names echs b → same_endpoint names echs a b ≡ true
 unfolding same_endpoint
 shown-to-same names echs a b e = ap (λ s. same_shown (shown names echs a) s) (sym e) ∙ same-shown-refl (shown names echs a)
+
+-- the same, by the test whether the places are equal
+pub place_hosts : (names : Names) (p q : ℕ) → p ≡ q → same_bytes (host_at names p) (host_at names q) ≡ true
+place_hosts names p q e = ap (λ k. same_bytes (host_at names p) (host_at names k)) (sym e) ∙ same_refl (host_at names p)
+
+pub place_seals : (echs : Echs) (p q : ℕ) → p ≡ q → same_bytes (ech_bytes_at echs p) (ech_bytes_at echs q) ≡ true
+place_seals echs p q e = ap (λ k. same_bytes (ech_bytes_at echs p) (ech_bytes_at echs k)) (sym e) ∙ same_refl (ech_bytes_at echs p)

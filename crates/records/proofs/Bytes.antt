@@ -1,12 +1,13 @@
 -- Comparing two byte strings, one byte a turn; the part of a room that a length cuts.
 use Prim.Native.Nat.{ℕ, suc, ◌+◌, ◌<◌, ◌≤◌, min}
-use mathlib.Core.Path.{◌≡◌, refl, ap}
+use mathlib.Core.Path.{◌≡◌, refl, sym, ap, ◌∙◌}
 use mathlib.Core.Bool.{Bool, true, false, ◌&&◌}
 use mathlib.Core.List.{List, [], ◌∷◌}
 use native.Mathlib.Numerals.{add-one}
 use native.Mathlib.Omega.{arith}
 use native.Mathlib.Decide.{dec_lt}
 use lib.Dec.{eqb as nat_eq}
+use lib.Pointwise.{pointwise}
 use lib.ListN.{length, take, drop, get_or, drop_of_length-le}
 use lib.Seq.{drop-cons, take_all}
 use borrow.Author.Tests.{eq-eqb, eqb-true}
@@ -54,6 +55,20 @@ same-equal (a ∷ x) (b ∷ y) e = first (nat_eq a b) refl e (same-equal x y)
     first true q s ih = let h : a ≡ b = eqb-true a b q in let r : x ≡ y = ih s in cc
     first false q s ih = absurd (let z : ◌≡◌ {A = ℕ} 0 1 = cc in omega arith)
 
--- a length cut at the room takes the same bytes
+-- a length cut at the room takes the same
+pub cut_take : {A : Type 0} (n room : ℕ) (x : List A) → length x ≡ room → take (min n room) x ≡ take n x
+cut_take n room x h = elim (dec_lt room n) [ yes p ↦ let e : min n room ≡ room = omega arith in rw (e, take_all room x (omega arith), take_all n x (omega arith)) | no q ↦ let e : min n room ≡ n = omega arith in rw e ]
+
 pub take-cut : (n room : ℕ) (x : List ℕ) → length x ≡ room → take (min n room) x ≡ take n x
-take-cut n room x h = elim (dec_lt room n) [ yes p ↦ let e : min n room ≡ room = omega arith in rw (e, take_all room x (omega arith), take_all n x (omega arith)) | no q ↦ let e : min n room ≡ n = omega arith in rw e ]
+take-cut = cut_take
+
+-- `==` of two slices compares them byte by byte
+pub same_pointwise : (x y : List ℕ) → pointwise nat_eq x y ≡ same_bytes x y
+unfolding same_bytes
+same_pointwise [] [] = refl
+same_pointwise [] (b ∷ y) = refl
+same_pointwise (a ∷ x) [] = refl
+same_pointwise (a ∷ x) (b ∷ y) = ap (λ t. nat_eq a b && t) (same_pointwise x y)
+
+pub same_alike : (x y : List ℕ) → x ≡ y → same_bytes x y ≡ true
+same_alike x y e = ap (same_bytes x) (sym e) ∙ same_refl x

@@ -1,13 +1,15 @@
 -- Two places are of one class exactly if they are the same, for any equivalence of the places of a table of any size; how the classes are found.
-use Prim.Native.Nat.{ℕ, zero, suc, ◌+◌, ◌≤◌, ◌<◌}
+use Prim.Native.Nat.{ℕ, zero, suc, ◌+◌, ◌-◌, ◌≤◌, ◌<◌}
 use mathlib.Core.Path.{◌≡◌, refl, sym, ap, ◌∙◌}
 use mathlib.Core.Bool.{Bool, true, false, cond}
-use mathlib.Core.List.{List, [], ◌∷◌}
+use mathlib.Core.List.{List, [], ◌∷◌, ◌++◌}
+use native.Mathlib.Numerals.{add-one}
 use native.Mathlib.Omega.{arith}
 use native.Mathlib.Decide.{dec_lt}
 use lib.Dec.{eqb as nat_eq}
-use lib.ListN.{length, get_or, set, length-set}
-use lib.Seq.{get_or-set_same, get_or-set_other, ext_get_or}
+use lib.ListN.{length, take, get_or, set, length-set}
+use lib.Seq.{take_all, get_or-set_same, get_or-set_other, ext_get_or}
+use Rattle.std.proofs.lemmas.List.{take_more_set}
 use borrow.Author.Tests.{eq-eqb, eqb-true, lt-ltb, le-ltb}
 use Rattle.records.specs.Lists.{cell}
 use Rattle.records.specs.Names.{name_bytes, name_bytes_at, name_at, no_name, blank_name, same_name, same_at}
@@ -15,6 +17,19 @@ use Rattle.records.specs.Classes.{first_from, class_of, classes_from, same_names
 use Rattle.records.specs.declared.names.Names.{Names}
 use Rattle.records.proofs.Bytes.{other_length}
 use Rattle.records.proofs.SameName.{Equivalence, same-name, by_bytes}
+
+-- looking for the first that passes, one place a turn
+pub first_here : (test : ℕ → Bool) (i n : ℕ) → i < n → test i ≡ true → first_from test i (n - i) ≡ i
+unfolding first_from
+first_here test i n h t = let e : n - i ≡ suc (n - (i + 1)) = omega arith in rw (e, t)
+
+pub first_next : (test : ℕ → Bool) (i n : ℕ) → i < n → test i ≡ false → first_from test (i + 1) (n - (i + 1)) ≡ first_from test i (n - i)
+unfolding first_from
+first_next test i n h t = let e : n - i ≡ suc (n - (i + 1)) = omega arith in rw (e, t)
+
+pub first_end : (test : ℕ → Bool) (i n : ℕ) → n ≤ i → first_from test i (n - i) ≡ i
+unfolding first_from
+first_end test i n h = let e : n - i ≡ 0 = omega arith in rw e
 
 -- the first that passes is q places on, if none before it does
 first-at : (test : ℕ → Bool) (i n q : ℕ) → q < n → ((k : ℕ) → k < q → test (i + k) ≡ false) → test (i + q) ≡ true → i + q ≡ first_from test i n
@@ -108,6 +123,25 @@ unfolding classes_from
 classes-at n same i zero k l = absurd (omega arith)
 classes-at n same i (suc m) zero l = let z : i ≡ i + 0 = omega arith in ap (class_of n same) z
 classes-at n same i (suc m) (suc k) l = let w : i + 1 + k ≡ i + suc k = omega arith in classes-at n same (i + 1) m k (omega arith) ∙ ap (class_of n same) w
+
+classes-suc : (n : ℕ) (same : ℕ → ℕ → Bool) (i m : ℕ) → classes_from n same i (suc m) ≡ classes_from n same i m ++ (class_of n same (i + m) ∷ [])
+unfolding classes_from
+classes-suc n same i zero = let z : i ≡ i + 0 = omega arith in ap (λ k. class_of n same k ∷ []) z
+classes-suc n same i (suc m) =
+    let w : i + 1 + m ≡ i + suc m = omega arith in
+    ap (λ l. class_of n same i ∷ l) (classes-suc n same (i + 1) m ∙ ap (λ k. classes_from n same (i + 1) m ++ (class_of n same k ∷ [])) w)
+
+-- one place more of a table that is filled in order
+pub classes_more : (n : ℕ) (same : ℕ → ℕ → Bool) (list : List ℕ) (p v : ℕ) → p < length list → take p list ≡ classes_from n same 0 p → v ≡ class_of n same p → take (p + 1) (set list p v) ≡ classes_from n same 0 (p + 1)
+classes_more n same list p v h t e =
+    let y : p ≡ 0 + p = omega arith in
+    let z : suc p ≡ p + 1 = omega arith in
+    take_more_set list p v h
+    ∙ (ap (λ l. l ++ (v ∷ [])) t ∙ (ap (λ x. classes_from n same 0 p ++ (x ∷ [])) (e ∙ ap (class_of n same) y) ∙ (sym (classes-suc n same 0 p) ∙ ap (classes_from n same 0) z)))
+
+pub classes_end : (names : Names) (list : List ℕ) (p : ℕ) → 14 ≤ p → length list ≡ 14 → take p list ≡ classes_from 14 (same_at names) 0 p → p ≤ 14 → record { list = list } ≡ same_names names
+unfolding same_names
+classes_end names list p h l t k = λ j. record { list = (sym (take_all p list (omega arith)) ∙ (t ∙ ap (classes_from 14 (same_at names) 0) (let e : p ≡ 14 = omega arith in e))) j }
 
 -- how far the code has come: places below p have their class, and none of the places below q is the same as p
 pub record Classed (n : ℕ) (same : ℕ → ℕ → Bool) (list : List ℕ) (p q : ℕ) : Type 0 where

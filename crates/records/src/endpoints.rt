@@ -4,14 +4,15 @@ ghost use Rattle.records.specs.Numbers.{rank_number, target_number};
 ghost use Rattle.records.specs.Endpoints.{no_endpoint, same_numbers, same_sealed, same_head, same_hosts, same_echs, same_endpoint};
 
 use super::names::{EchPlace, Echs, Names, ech_at, same_ech, same_host};
+use super::services::has_ech;
 
 // `ConnectionAttemptHttpVersions`
-#[derive(Clone, Copy)]
+#[derive(Clone, Copy, Debug, PartialEq, Eq)]
 pub enum Rank {
-    H3,
-    H2OrH1,
-    H2,
-    H1,
+    H3 = 0,
+    H2OrH1 = 1,
+    H2 = 2,
+    H1 = 3,
 }
 
 // What an endpoint connects to: an IPv4 address, an IPv6 address with its scope, or a name by place.
@@ -45,12 +46,7 @@ pub fn no_endpoint() -> Endpoint
 pub fn rank_number(r: Rank) -> u8
     ensures { result ≡ rank_number r }
 {
-    match r {
-        Rank::H3 => 0,
-        Rank::H2OrH1 => 1,
-        Rank::H2 => 2,
-        Rank::H1 => 3,
-    }
+    r as u8
 }
 
 // A target's case in an answer.
@@ -67,123 +63,55 @@ pub fn target_number(t: Target) -> u8
 fn same_numbers(a: Target, b: Target) -> bool
     ensures { result ≡ same_numbers a b }
 {
-    match a {
-        Target::V4(x) => match b {
-            Target::V4(y) => x == y,
-            Target::V6(_, _, _) => false,
-            Target::Named(_) => false,
-        },
-        Target::V6(h, l, s) => match b {
-            Target::V4(_) => false,
-            Target::V6(i, m, t) => same_six(h, l, s, i, m, t),
-            Target::Named(_) => false,
-        },
-        Target::Named(_) => match b {
-            Target::V4(_) => false,
-            Target::V6(_, _, _) => false,
-            Target::Named(_) => true,
-        },
+    match (a, b) {
+        (Target::V4(x), Target::V4(y)) => x == y,
+        (Target::V6(h, l, s), Target::V6(i, m, t)) => h == i && l == m && s == t,
+        (Target::Named(_), Target::Named(_)) => true,
+        _ => false,
     }
-}
-
-fn same_six(h: u64, l: u64, s: u32, i: u64, m: u64, t: u32) -> bool
-    ensures { result ≡ nat_eq h i && (nat_eq l m && nat_eq s t) }
-{
-    if h != i {
-        return false;
-    }
-    if l != m {
-        return false;
-    }
-    s == t
 }
 
 fn same_sealed(a: EchPlace, b: EchPlace) -> bool
     ensures { result ≡ same_sealed a b }
 {
-    match a {
-        EchPlace::Without => match b {
-            EchPlace::Without => true,
-            EchPlace::At(_) => false,
-        },
-        EchPlace::At(_) => match b {
-            EchPlace::Without => false,
-            EchPlace::At(_) => true,
-        },
-    }
+    has_ech(a) == has_ech(b)
 }
 
 // Whether two endpoints agree in port, rank, address and in having ECH at all. Only where they do can the bytes in the tables still part them.
+#[tactic(auto, unfolding(crate::specs::Endpoints::same_head))]
 pub fn same_head(a: Endpoint, b: Endpoint) -> bool
     ensures { result ≡ same_head a b }
 {
-    if a.port != b.port {
-        return false;
-    }
-    let x = a.rank;
-    let y = b.rank;
-    if rank_number(x) != rank_number(y) {
-        return false;
-    }
-    let t = a.target;
-    let u = b.target;
-    if !same_numbers(t, u) {
-        return false;
-    }
-    let e = a.ech;
-    let f = b.ech;
-    same_sealed(e, f)
+    a.port == b.port
+        && rank_number(a.rank) == rank_number(b.rank)
+        && same_numbers(a.target, b.target)
+        && same_sealed(a.ech, b.ech)
 }
 
+#[tactic(auto, using(crate::proofs::Alike::place_hosts))]
 fn same_hosts(names: Names, a: Target, b: Target) -> bool
     ensures { result ≡ same_hosts names a b }
 {
-    match a {
-        Target::V4(_) => true,
-        Target::V6(_, _, _) => true,
-        Target::Named(p) => match b {
-            Target::V4(_) => true,
-            Target::V6(_, _, _) => true,
-            Target::Named(q) => {
-                if p == q {
-                    return true;
-                }
-                same_host(names, p, q)
-            }
-        },
+    match (a, b) {
+        (Target::Named(p), Target::Named(q)) => p == q || same_host(names, p, q),
+        _ => true,
     }
 }
 
+#[tactic(auto, using(crate::proofs::Alike::place_seals))]
 fn same_echs(echs: Echs, a: EchPlace, b: EchPlace) -> bool
     ensures { result ≡ same_echs echs a b }
 {
-    match a {
-        EchPlace::Without => true,
-        EchPlace::At(p) => match b {
-            EchPlace::Without => true,
-            EchPlace::At(q) => {
-                if p == q {
-                    return true;
-                }
-                same_ech(ech_at(echs, p), ech_at(echs, q))
-            }
-        },
+    match (a, b) {
+        (EchPlace::At(p), EchPlace::At(q)) => p == q || same_ech(ech_at(echs, p), ech_at(echs, q)),
+        _ => true,
     }
 }
 
 // Whether two endpoints are one: target, port, rank and ECH bytes.
+#[tactic(auto, using(crate::proofs::Alike::head_first))]
 pub fn same_endpoint(names: Names, echs: Echs, a: Endpoint, b: Endpoint) -> bool
     ensures { result ≡ same_endpoint names echs a b }
 {
-    if !same_head(a, b) {
-        return false;
-    }
-    let t = a.target;
-    let u = b.target;
-    if !same_hosts(names, t, u) {
-        return false;
-    }
-    let e = a.ech;
-    let f = b.ech;
-    same_echs(echs, e, f)
+    same_head(a, b) && same_hosts(names, a.target, b.target) && same_echs(echs, a.ech, b.ech)
 }

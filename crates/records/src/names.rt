@@ -1,8 +1,10 @@
 // Names and ECH bytes: the two tables, and when what lies at two places is the same.
-ghost use Rattle.std.specs.Prelude.{min, ◌≡◌, length};
+ghost use Rattle.std.specs.Prelude.{◌≡◌, length};
 ghost use Rattle.numbers.specs.Names.{undotted};
-ghost use Rattle.records.specs.Names.{no_name, no_ech, no_names, no_echs, name_bytes, ech_bytes, name_at, ech_at, host_at, same_bytes, same_name, connect_name};
+ghost use Rattle.records.specs.Names.{no_name, no_ech, no_names, no_echs, name_bytes, ech_bytes, name_at, ech_at, host_at, same_bytes, same_name, same_at, connect_name};
 ghost use Rattle.records.specs.Classes.{same_names, same_class, class_at};
+
+use super::places::{Places, class_of};
 
 // 1 to 253 bytes, with one trailing dot or none; empty where there is none.
 #[derive(Clone, Copy)]
@@ -43,6 +45,7 @@ pub struct SameNames {
     pub list: [u8; 14],
 }
 
+#[tactic(auto, unfolding(crate::specs::Names::no_name))]
 pub fn no_name() -> Name
     ensures { result ≡ no_name }
 {
@@ -52,6 +55,7 @@ pub fn no_name() -> Name
     }
 }
 
+#[tactic(auto, unfolding(crate::specs::Names::no_ech))]
 pub fn no_ech() -> Ech
     ensures { result ≡ no_ech }
 {
@@ -61,58 +65,62 @@ pub fn no_ech() -> Ech
     }
 }
 
+#[tactic(auto, unfolding(crate::specs::Names::no_names))]
 pub fn no_names() -> Names
     ensures { result ≡ no_names }
 {
-    let n = no_name();
-    Names { list: [n; 14] }
+    Names {
+        list: [no_name(); 14],
+    }
 }
 
+#[tactic(auto, unfolding(crate::specs::Names::no_echs))]
 pub fn no_echs() -> Echs
     ensures { result ≡ no_echs }
 {
-    let e = no_ech();
-    Echs { list: [e; 40] }
+    Echs {
+        list: [no_ech(); 40],
+    }
 }
 
+impl Name {
+    // The bytes within the length, which is cut at the room.
+    #[tactic(auto, unfolding(crate::specs::Names::name_bytes), using(crate::proofs::Bytes::cut_take))]
+    pub fn as_bytes(&self) -> &[u8]
+        ensures { result.now ≡ name_bytes self.now }
+    {
+        &self.bytes[..self.len.min(253)]
+    }
+}
+
+impl Ech {
+    #[tactic(auto, unfolding(crate::specs::Names::ech_bytes), using(crate::proofs::Bytes::cut_take))]
+    pub fn as_bytes(&self) -> &[u8]
+        ensures { result.now ≡ ech_bytes self.now }
+    {
+        &self.bytes[..self.len.min(512)]
+    }
+}
+
+#[tactic(auto, using(crate::proofs::Bytes::same_pointwise))]
 pub fn same_bytes(a: &[u8], b: &[u8]) -> bool
     ensures { result ≡ same_bytes a.now b.now }
 {
-    if a.len() != b.len() {
-        return false;
-    }
-    let mut i = 0;
-    while i < a.len() {
-        if a[i] != b[i] {
-            return false;
-        }
-        i += 1;
-    }
-    true
-}
-
-// A length cut at the room.
-fn cut(n: usize, room: usize) -> usize
-    ensures { result ≡ min n room }
-{
-    if room < n { room } else { n }
+    a == b
 }
 
 // How many bytes a name has.
 pub fn name_len(name: Name) -> usize
     ensures { result ≡ length (name_bytes name) }
 {
-    cut(name.len, 253)
+    name.as_bytes().len()
 }
 
+#[tactic(auto, unfolding(crate::specs::Names::same_name))]
 pub fn same_name(a: Name, b: Name) -> bool
     ensures { result ≡ same_name (name_bytes a) (name_bytes b) }
 {
-    let x = a.bytes;
-    let y = b.bytes;
-    let n = cut(a.len, 253);
-    let m = cut(b.len, 253);
-    same_bytes(&x[..n], &y[..m])
+    same_bytes(a.as_bytes(), b.as_bytes())
 }
 
 // A name without one trailing dot.
@@ -120,141 +128,143 @@ pub fn same_name(a: Name, b: Name) -> bool
 fn undot(name: &[u8]) -> &[u8]
     ensures { result.now ≡ undotted name.now }
 {
-    let n = name.len();
-    if n == 0 {
-        return name;
+    match name {
+        [host @ .., b'.'] => host,
+        _ => name,
     }
-    let last = n - 1;
-    if name[last] == b'.' {
-        return &name[..last];
-    }
-    name
 }
 
 // The host of a by-name endpoint: its own name, or the origin's where it has none, each without one trailing dot.
+#[tactic(auto, unfolding(crate::specs::Names::connect_name))]
 pub fn connect_name<'a>(origin: &'a [u8], own: &'a [u8]) -> &'a [u8]
     ensures { result.now ≡ connect_name origin.now own.now }
 {
-    let h = undot(own);
-    if h.len() == 0 {
+    let host = undot(own);
+    if host.is_empty() {
         return undot(origin);
     }
-    h
+    host
+}
+
+impl Names {
+    // The name's bytes at a place; none outside the table.
+    #[tactic(auto, unfolding(crate::specs::Names::name_at, crate::specs::Names::name_bytes, crate::specs::Names::no_name))]
+    pub fn bytes_at(&self, place: u8) -> &[u8]
+        ensures { result.now ≡ name_bytes (name_at self.now place) }
+    {
+        match self.list.get(place as usize) {
+            Some(name) => name.as_bytes(),
+            None => &[],
+        }
+    }
+}
+
+impl Echs {
+    #[tactic(auto, unfolding(crate::specs::Names::ech_at, crate::specs::Names::ech_bytes, crate::specs::Names::no_ech))]
+    pub fn bytes_at(&self, place: u8) -> &[u8]
+        ensures { result.now ≡ ech_bytes (ech_at self.now place) }
+    {
+        match self.list.get(place as usize) {
+            Some(ech) => ech.as_bytes(),
+            None => &[],
+        }
+    }
+}
+
+impl Places for Names {
+    ghost alike = { same_at };
+
+    #[tactic(auto, unfolding(crate::specs::Names::same_at, crate::specs::Names::same_name), using(crate::proofs::Bytes::same_alike))]
+    fn same(&self, p: u8, q: u8) -> bool {
+        p == q || same_bytes(self.bytes_at(p), self.bytes_at(q))
+    }
+}
+
+impl Places for Echs {
+    ghost alike = { λ t p q. same_bytes (ech_bytes (ech_at t p)) (ech_bytes (ech_at t q)) };
+
+    #[tactic(auto, using(crate::proofs::Bytes::same_alike, crate::proofs::Bytes::same_pointwise))]
+    fn same(&self, p: u8, q: u8) -> bool {
+        p == q || self.bytes_at(p) == self.bytes_at(q)
+    }
 }
 
 // The name at a place; the zero outside the table.
+#[tactic(auto, unfolding(crate::specs::Names::name_at))]
 pub fn name_at(names: Names, place: u8) -> Name
     ensures { result ≡ name_at names place }
 {
-    let p = place as usize;
-    if p < 14 {
-        return names.list[p];
+    match names.list.get(place as usize) {
+        Some(name) => *name,
+        None => no_name(),
     }
-    no_name()
 }
 
 // The ECH bytes at a place; the zero outside the table.
+#[tactic(auto, unfolding(crate::specs::Names::ech_at))]
 pub fn ech_at(echs: Echs, place: u8) -> Ech
     ensures { result ≡ ech_at echs place }
 {
-    let p = place as usize;
-    if p < 40 {
-        return echs.list[p];
+    match echs.list.get(place as usize) {
+        Some(ech) => *ech,
+        None => no_ech(),
     }
-    no_ech()
 }
 
 // Whether two own names, each with the origin's to fall back on, are one host.
-fn same_connect<'a>(origin: &'a [u8], a: &'a [u8], b: &'a [u8]) -> bool
-    ensures { result ≡ same_bytes (connect_name origin.now a.now) (connect_name origin.now b.now) }
-{
-    let h = connect_name(origin, a);
-    let g = connect_name(origin, b);
-    same_bytes(h, g)
-}
-
-// The same of three names in their rooms.
 pub fn same_connected(origin: Name, a: Name, b: Name) -> bool
     ensures { result ≡ same_bytes (connect_name (name_bytes origin) (name_bytes a)) (connect_name (name_bytes origin) (name_bytes b)) }
 {
-    let o = origin.bytes;
-    let x = a.bytes;
-    let y = b.bytes;
-    let k = cut(origin.len, 253);
-    let n = cut(a.len, 253);
-    let m = cut(b.len, 253);
-    same_connect(&o[..k], &x[..n], &y[..m])
+    let from = origin.as_bytes();
+    same_bytes(
+        connect_name(from, a.as_bytes()),
+        connect_name(from, b.as_bytes()),
+    )
 }
 
 // Whether two by-name endpoints connect to one host.
+#[tactic(auto, unfolding(crate::specs::Names::host_at))]
 pub fn same_host(names: Names, p: u8, q: u8) -> bool
     ensures { result ≡ same_bytes (host_at names p) (host_at names q) }
 {
-    let o = name_at(names, 0);
-    let a = name_at(names, p);
-    let b = name_at(names, q);
-    same_connected(o, a, b)
+    let origin = names.bytes_at(0);
+    same_bytes(
+        connect_name(origin, names.bytes_at(p)),
+        connect_name(origin, names.bytes_at(q)),
+    )
 }
 
 pub fn same_ech(a: Ech, b: Ech) -> bool
     ensures { result ≡ same_bytes (ech_bytes a) (ech_bytes b) }
 {
-    let x = a.bytes;
-    let y = b.bytes;
-    let n = cut(a.len, 512);
-    let m = cut(b.len, 512);
-    same_bytes(&x[..n], &y[..m])
+    same_bytes(a.as_bytes(), b.as_bytes())
 }
 
-// The classes of the table's names: each is compared with the names before it, and only while their lengths agree.
+// The classes of the table's names.
+#[tactic(auto, unfolding(crate::specs::Classes::same_names, crate::specs::Classes::classes_from), using(crate::proofs::Classes::classes_end))]
 pub fn same_names(names: Names) -> SameNames
     ensures { result ≡ same_names names }
 {
     let mut list = [0u8; 14];
-    let mut p: usize = 0;
-    let mut q: usize = 0;
-    while p < 14 {
-        let n = name_len(names.list[p]);
-        let m = name_len(names.list[q]);
-        if n == 0 {
-            list[p] = 14;
-            p += 1;
-            q = 0;
-            continue;
-        }
-        if q == p {
-            list[p] = p as u8;
-            p += 1;
-            q = 0;
-            continue;
-        }
-        if n == m {
-            let a = names.list[q];
-            let b = names.list[p];
-            if same_name(a, b) {
-                list[p] = q as u8;
-                p += 1;
-                q = 0;
-                continue;
-            }
-        }
-        q += 1;
+    for p in 0..14u8 {
+        list[p as usize] = class_of(&names, 14, p);
     }
     SameNames { list }
 }
 
 // The class of a place; 14 outside the table.
+#[tactic(auto, unfolding(crate::specs::Classes::class_at))]
 fn class_at(same: SameNames, place: u8) -> u8
     ensures { result ≡ class_at same place }
 {
-    let p = place as usize;
-    if p < 14 {
-        return same.list[p];
+    match same.list.get(place as usize) {
+        Some(class) => *class,
+        None => 14,
     }
-    14
 }
 
 // Whether two places are of one class.
+#[tactic(auto, unfolding(crate::specs::Classes::same_class))]
 pub fn same_class(same: SameNames, p: u8, q: u8) -> bool
     ensures { result ≡ same_class same p q }
 {

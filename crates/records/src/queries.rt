@@ -4,11 +4,11 @@ ghost use Rattle.records.specs.Numbers.{kind_number, input_kind};
 ghost use Rattle.records.specs.Queries.{no_query, no_queries, no_addr, no_addresses, no_answers, answered, address_at};
 
 // The type of a query record.
-#[derive(Clone, Copy)]
+#[derive(Clone, Copy, Debug, PartialEq, Eq)]
 pub enum Kind {
-    Https,
-    Aaaa,
-    A,
+    Https = 0,
+    Aaaa = 1,
+    A = 2,
 }
 
 // What a query record holds: the moment it came and how many addresses it has. An HTTPS answer has none: its services are counted where they lie.
@@ -76,13 +76,13 @@ pub fn no_query() -> Query
     }
 }
 
+#[tactic(auto, unfolding(crate::specs::Queries::no_queries))]
 pub fn no_queries() -> Queries
     ensures { result ≡ no_queries }
 {
-    let q = no_query();
     Queries {
         count: 0,
-        list: [q; 16],
+        list: [no_query(); 16],
     }
 }
 
@@ -96,29 +96,29 @@ pub fn no_addr() -> Addr
     }
 }
 
+#[tactic(auto, unfolding(crate::specs::Queries::no_addresses))]
 pub fn no_addresses() -> Addresses
     ensures { result ≡ no_addresses }
 {
-    let a = no_addr();
-    Addresses { list: [a; 8] }
+    Addresses {
+        list: [no_addr(); 8],
+    }
 }
 
+#[tactic(auto, unfolding(crate::specs::Queries::no_answers))]
 pub fn no_answers() -> Answers
     ensures { result ≡ no_answers }
 {
-    let a = no_addresses();
-    Answers { list: [a; 16] }
+    Answers {
+        list: [no_addresses(); 16],
+    }
 }
 
 // A record type in an answer.
 pub fn kind_number(k: Kind) -> u8
     ensures { result ≡ kind_number k }
 {
-    match k {
-        Kind::Https => 0,
-        Kind::Aaaa => 1,
-        Kind::A => 2,
-    }
+    k as u8
 }
 
 // The kind of the input that answers a record.
@@ -135,25 +135,16 @@ pub fn input_kind(k: Kind) -> u8
 pub fn is_answered(a: Answer) -> bool
     ensures { result ≡ answered a }
 {
-    match a {
-        Answer::Pending => false,
-        Answer::Failed(_) => true,
-        Answer::Held(_, _) => true,
-    }
+    !matches!(a, Answer::Pending)
 }
 
 // The address at a place of a record's answer; the zero outside the tables.
+#[tactic(auto, unfolding(crate::specs::Queries::address_at))]
 pub fn address_at(answers: Answers, q: u8, p: u8) -> Addr
     ensures { result ≡ address_at answers q p }
 {
-    let k = q as usize;
-    let j = p as usize;
-    if 16 <= k {
-        return no_addr();
+    if q < 16 && p < 8 {
+        return answers.list[q as usize].list[p as usize];
     }
-    let x = answers.list[k];
-    if 8 <= j {
-        return no_addr();
-    }
-    x.list[j]
+    no_addr()
 }

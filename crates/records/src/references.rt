@@ -47,20 +47,14 @@ pub fn no_item() -> Item
 }
 
 // The host of the origin (0) or of alternative service k - 1.
+#[tactic(auto, unfolding(crate::specs::References::literal_at))]
 fn literal_at(r: Rules, alts: Alts, k: u8) -> Host
     ensures { result ≡ literal_at r alts k }
 {
-    let origin = r.host;
-    if k == 0 {
-        return origin;
+    if k == 0 || 4 < k {
+        return r.host;
     }
-    let j = (k - 1) as usize;
-    if 4 <= j {
-        return origin;
-    }
-    let a = alts.list[j];
-    let h = a.host;
-    host_of(origin, h)
+    host_of(r.host, alts.list[(k - 1) as usize].host)
 }
 
 fn literal_six(h: Host) -> Target
@@ -68,8 +62,7 @@ fn literal_six(h: Host) -> Target
 {
     match h {
         Host::V6(x, y) => Target::V6(x, y, 0),
-        Host::V4(_) => Target::V6(0, 0, 0),
-        Host::Named => Target::V6(0, 0, 0),
+        Host::V4(_) | Host::Named => Target::V6(0, 0, 0),
     }
 }
 
@@ -78,8 +71,7 @@ fn literal_four(h: Host) -> Target
 {
     match h {
         Host::V4(x) => Target::V4(x),
-        Host::V6(_, _) => Target::V4(0),
-        Host::Named => Target::V4(0),
+        Host::V6(_, _) | Host::Named => Target::V4(0),
     }
 }
 
@@ -107,6 +99,7 @@ fn target_at(r: Rules, alts: Alts, answers: Answers, services: Services, p: u8, 
 }
 
 // The endpoint that a reference stands for; a place outside its table reads as empty.
+#[tactic(auto, unfolding(crate::specs::References::endpoint_of))]
 pub fn endpoint_at(
     rules: Rules,
     alts: Alts,
@@ -116,13 +109,10 @@ pub fn endpoint_at(
 ) -> Endpoint
     ensures { result ≡ endpoint_of rules alts answers services item }
 {
-    let s = item.source;
-    let k = item.rank;
-    let e = item.ech;
     Endpoint {
-        target: target_at(rules, alts, answers, services, item.place, s),
+        target: target_at(rules, alts, answers, services, item.place, item.source),
         port: item.port,
-        rank: k,
-        ech: e,
+        rank: item.rank,
+        ech: item.ech,
     }
 }

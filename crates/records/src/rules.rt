@@ -101,77 +101,50 @@ pub fn no_alt() -> Alt
     }
 }
 
+#[tactic(auto, unfolding(crate::specs::Rules::no_alts))]
 pub fn no_alts() -> Alts
     ensures { result ≡ no_alts }
 {
-    let a = no_alt();
     Alts {
         count: 0,
-        list: [a; 4],
+        list: [no_alt(); 4],
     }
 }
 
 pub fn prefers_six(p: Preference) -> bool
     ensures { result ≡ prefers_six p }
 {
-    match p {
-        Preference::DualStackPreferV6 => true,
-        Preference::DualStackPreferV4 => false,
-        Preference::Ipv6Only => true,
-        Preference::Ipv4Only => false,
-    }
+    matches!(p, Preference::DualStackPreferV6 | Preference::Ipv6Only)
 }
 
 pub fn allows_six(p: Preference) -> bool
     ensures { result ≡ allows_six p }
 {
-    match p {
-        Preference::DualStackPreferV6 => true,
-        Preference::DualStackPreferV4 => true,
-        Preference::Ipv6Only => true,
-        Preference::Ipv4Only => false,
-    }
+    !matches!(p, Preference::Ipv4Only)
 }
 
 pub fn allows_four(p: Preference) -> bool
     ensures { result ≡ allows_four p }
 {
-    match p {
-        Preference::DualStackPreferV6 => true,
-        Preference::DualStackPreferV4 => true,
-        Preference::Ipv6Only => false,
-        Preference::Ipv4Only => true,
-    }
+    !matches!(p, Preference::Ipv6Only)
 }
 
 pub fn by_name(m: Mode) -> bool
     ensures { result ≡ by_name m }
 {
-    match m {
-        Mode::Ip => false,
-        Mode::Name => true,
-        Mode::NameWithHttpsRr => true,
-    }
+    !matches!(m, Mode::Ip)
 }
 
 pub fn with_https(m: Mode) -> bool
     ensures { result ≡ with_https m }
 {
-    match m {
-        Mode::Ip => false,
-        Mode::Name => false,
-        Mode::NameWithHttpsRr => true,
-    }
+    matches!(m, Mode::NameWithHttpsRr)
 }
 
 pub fn is_named(h: Host) -> bool
     ensures { result ≡ is_named h }
 {
-    match h {
-        Host::Named => true,
-        Host::V4(_) => false,
-        Host::V6(_, _) => false,
-    }
+    matches!(h, Host::Named)
 }
 
 // The host of an alternative service.

@@ -40,115 +40,88 @@ pub fn no_hint() -> Hint
     Hint { hi: 0, lo: 0 }
 }
 
+#[tactic(auto, unfolding(crate::specs::Services::no_service))]
 pub fn no_service() -> Service
     ensures { result ≡ no_service }
 {
-    let h = no_hint();
-    let none = Versions {
-        h3: false,
-        h2: false,
-        h1: false,
-    };
     Service {
         priority: 0,
         name: 0,
         ech: EchPlace::Without,
-        versions: none,
+        versions: Versions {
+            h3: false,
+            h2: false,
+            h1: false,
+        },
         port: Port::Origin,
         n4: 0,
         v4: [0; 4],
         n6: 0,
-        v6: [h; 4],
+        v6: [no_hint(); 4],
     }
 }
 
+#[tactic(auto, unfolding(crate::specs::Services::no_services))]
 pub fn no_services() -> Services
     ensures { result ≡ no_services }
 {
-    let s = no_service();
     Services {
         count: 0,
-        list: [s; 4],
+        list: [no_service(); 4],
     }
 }
 
 pub fn has_ech(e: EchPlace) -> bool
     ensures { result ≡ has_ech e }
 {
-    match e {
-        EchPlace::Without => false,
-        EchPlace::At(_) => true,
-    }
+    matches!(e, EchPlace::At(_))
 }
 
 // Whether some service that is held has ECH.
-#[tactic(auto, using(crate::proofs::Seals::ech_more, crate::proofs::Seals::ech_none, crate::proofs::Seals::ech_end))]
+#[tactic(auto, using(crate::proofs::Bytes::cut_take, crate::proofs::Seals::ech_step, crate::proofs::Seals::ech_end))]
 fn some_ech(s: Services) -> bool
     ensures { result ≡ some? (λ x. has_ech x.ech) (offered s) }
 {
-    let n = s.count;
-    let mut i: usize = 0;
-    while i < 4 {
-        if n <= i {
-            return false;
-        }
-        let x = s.list[i];
-        let e = x.ech;
-        if has_ech(e) {
+    for x in &s.list[..s.count.min(4)] {
+        if has_ech(x.ech) {
             return true;
         }
-        i += 1;
     }
     false
 }
 
 // Whether ECH is on and a service has it: then only those that have it are used, and nothing beside the services is.
+#[tactic(auto, unfolding(crate::specs::Services::any_ech))]
 pub fn any_ech(on: bool, s: Services) -> bool
     ensures { result ≡ any_ech on s }
 {
-    if on {
-        return some_ech(s);
-    }
-    false
+    on && some_ech(s)
 }
 
 // Whether a service with that ECH is used; `sealed` is what `any_ech` says.
 pub fn is_usable(sealed: bool, e: EchPlace) -> bool
     ensures { result ≡ is_usable sealed e }
 {
-    if sealed {
-        return has_ech(e);
-    }
-    true
+    !sealed || has_ech(e)
 }
 
 // A service's IPv6 and IPv4 hints; the zero outside the tables.
+#[tactic(auto, unfolding(crate::specs::Services::hint_six))]
 pub fn hint_six(services: Services, i: u8, p: u8) -> Hint
     ensures { result ≡ hint_six services i p }
 {
-    let k = i as usize;
-    let j = p as usize;
-    if 4 <= k {
-        return no_hint();
+    if i < 4 && p < 4 {
+        return services.list[i as usize].v6[p as usize];
     }
-    let x = services.list[k];
-    if 4 <= j {
-        return no_hint();
-    }
-    x.v6[j]
+    no_hint()
 }
 
+#[tactic(auto, unfolding(crate::specs::Services::hint_four))]
 pub fn hint_four(services: Services, i: u8, p: u8) -> u32
     ensures { result ≡ hint_four services i p }
 {
-    let k = i as usize;
-    let j = p as usize;
-    if 4 <= k {
-        return 0;
+    if i < 4 && p < 4 {
+        return services.list[i as usize].v4[p as usize];
     }
-    let x = services.list[k];
-    if 4 <= j {
-        return 0;
-    }
-    x.v4[j]
+    0
 }

@@ -1,4 +1,5 @@
 -- An accepted answer is the one held afterwards, with its moment; an accepted result ends its attempt, and of a cancelled one nothing changes.
+use Rattle.std.specs.Prelude.{Ok, Err}
 use Prim.Native.Nat.{ℕ, zero, suc, ◌+◌, ◌<◌, ◌≤◌}
 use mathlib.Core.Path.{◌≡◌, refl, sym, ◌∙◌}
 use mathlib.Core.Bool.{Bool, true, false, cond}
@@ -25,18 +26,15 @@ use Rattle.state.specs.declared.changes.InputChange.{InputChange}
 use Rattle.state.specs.declared.changes.InputChange.TheVariants as change
 use Rattle.state.specs.declared.changes.Round.{Round}
 use Rattle.state.specs.declared.changes.Round.TheVariants.{First, Second}
-use Rattle.input.specs.Input.{record_at, attempt_at, with_answer, is_failed, stored_at}
+use Rattle.input.specs.Input.{Verdict, record_at, attempt_at, with_answer, is_failed, stored_at}
 use Rattle.input.specs.Verdicts.{Answered, Ended, Ends, again, end_of, refresh_after, result_of}
 use Rattle.input.specs.declared.Input.TheVariants as input
 use Rattle.input.specs.declared.Outcome.{Outcome}
 use Rattle.input.specs.declared.Outcome.TheVariants as outcome
-use Rattle.input.specs.declared.Verdict.{Verdict}
-use Rattle.input.specs.declared.Verdict.TheVariants as verdict
 use Rattle.input.proofs.Laws.{held_after, failed-after, ended-after}
 use Rattle.after.specs.After.{queries_fed, put_query, put_attempt, put_addresses, put_names, put_echs, put_retry, put_ech}
 use Rattle.machine.specs.Steps.{fed, taken_of, judged, input_step}
 use Rattle.machine.specs.declared.calls.Beside.{Beside}
-use Rattle.machine.specs.declared.calls.Taken.TheVariants.{Accepted}
 use Rattle.standing.specs.Standing.{held_of, standing}
 use Rattle.standing.specs.Sound.{services_sound, answer_sound, sound}
 use Rattle.standing.specs.Kept.{Offered, Brought, Holds, Again, EndsNow, EndsAs, EndsOne}
@@ -65,9 +63,9 @@ ech-room First = omega arith
 ech-room Second = omega arith
 
 -- An accepted verdict has a change
-accepts : (v : Verdict) → taken_of v ≡ Accepted → (c : InputChange) × (v ≡ verdict.Accepted c)
-accepts (verdict.Accepted c) e = (c, refl)
-accepts (verdict.Refused r) e = absurd (let z : ◌≡◌ {A = ℕ} 0 1 = cc in omega arith)
+accepts : (v : Verdict) → taken_of v ≡ (Ok tt) → (c : InputChange) × (v ≡ Ok c)
+accepts (Ok c) e = (c, refl)
+accepts (Err r) e = absurd (let z : ◌≡◌ {A = ℕ} 0 1 = cc in omega arith)
 
 -- An answer is stored as the record at its place, whatever comes with it
 stored-queries : (q : Queries) (p : ℕ) (x : Query) (failed : Bool) (round : Round) (k : Kind)
@@ -142,7 +140,7 @@ module _ (m : Machine) (h : Standing m) (b : Beside) where
 -- The machine has the answer that was given, with the moment at which it came.
 pub answer-held : (m : Machine) (now : ℕ) (k : Kind) (id : ℕ) (stale : Bool) (n : ℕ) (b : Beside) → standing m ≡ true
     → sound (input.Holds k id stale n) b ≡ true
-    → (input_step m now (input.Holds k id stale n) b).taken ≡ Accepted → Holds m k id stale (Held now n) b (input_step m now (input.Holds k id stale n) b).machine
+    → (input_step m now (input.Holds k id stale n) b).taken ≡ (Ok tt) → Holds m k id stale (Held now n) b (input_step m now (input.Holds k id stale n) b).machine
 unfolding input_step judged
 answer-held m now k id stale n b h s e =
     let v = accepts (judged m now (input.Holds k id stale n)) e in
@@ -151,7 +149,7 @@ answer-held m now k id stale n b h s e =
 -- So it is with an answer that failed.
 pub failure-held : (m : Machine) (now : ℕ) (k : Kind) (id : ℕ) (stale : Bool) (b : Beside) → standing m ≡ true
     → sound (input.Fails k id stale) b ≡ true
-    → (input_step m now (input.Fails k id stale) b).taken ≡ Accepted → Holds m k id stale (Failed now) b (input_step m now (input.Fails k id stale) b).machine
+    → (input_step m now (input.Fails k id stale) b).taken ≡ (Ok tt) → Holds m k id stale (Failed now) b (input_step m now (input.Fails k id stale) b).machine
 unfolding input_step judged
 failure-held m now k id stale b h s e =
     let v = accepts (judged m now (input.Fails k id stale)) e in
@@ -208,7 +206,7 @@ ends-one m h b id o c f = record { place = f.place; within = omega (arith, f.wit
 
 -- An accepted result ends its attempt as it says; of an attempt that was cancelled nothing changes.
 pub result-ends : (m : Machine) (now : ℕ) (o : Outcome) (id : ℕ) (b : Beside) → standing m ≡ true
-    → (input_step m now (result_of o id) b).taken ≡ Accepted → EndsOne m id o b (input_step m now (result_of o id) b).machine
+    → (input_step m now (result_of o id) b).taken ≡ (Ok tt) → EndsOne m id o b (input_step m now (result_of o id) b).machine
 unfolding input_step judged
 result-ends m now o id b h e =
     let v = accepts (judged m now (result_of o id)) e in

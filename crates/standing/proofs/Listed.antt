@@ -1,4 +1,5 @@
 -- The places of what is attempted next are known: of a listed endpoint, and of a retry.
+use Rattle.std.specs.Prelude.{Some, None}
 use Prim.Native.Nat.{ℕ, zero, suc, ◌+◌, ◌-◌, ◌*◌, ◌<◌, ◌≤◌}
 use mathlib.Core.Path.{◌≡◌, refl, sym, ap, ◌∙◌}
 use mathlib.Core.Logic.{◌⊎◌, ⊎_elim}
@@ -45,9 +46,7 @@ use Rattle.listing.specs.declared.runs.Run.{Run}
 use Rattle.listing.proofs.Endpoints.{endpoint-from}
 use Rattle.state.specs.State.{tried, retries_of, no_attempt}
 use Rattle.state.specs.declared.Machine.{Machine}
-use Rattle.upcoming.specs.Next.{Alike, attempted, next_of, retried_at, retry_endpoints, next_retry, next_endpoint}
-use Rattle.upcoming.specs.declared.next.Next.{Next}
-use Rattle.upcoming.specs.declared.next.Next.TheVariants as next
+use Rattle.upcoming.specs.Next.{Next, Alike, attempted, next_of, retried_at, retry_endpoints, next_retry, next_endpoint}
 use Rattle.standing.specs.Lists.{◌and◌, every, has}
 use Rattle.standing.specs.Standing.{phase, named, kept, target_in, ech_in, attempt_in, ech_of, service_stands, refused}
 use Rattle.standing.proofs.Lists.{both, left, right, rule, or_left, or_right, or-true, mark-in, every-imp, every-all, every-join, every_map, every-at, every-each}
@@ -290,8 +289,8 @@ module _ (m : Machine) (h : Standing m) where
 
   -- its places are known, and it is one that is looked for
   abbrev pub Known : (Endpoint → Bool) → Next → Type 0
-  Known test next.Nothing = Unit {0}
-  Known test (next.New e) = (endpoint_in answers rs e ≡ true) × (test e ≡ true)
+  Known test None = Unit {0}
+  Known test (Some e) = (endpoint_in answers rs e ≡ true) × (test e ≡ true)
 
   listed_in : (e : Endpoint) → Memᴰ e (endpoints_to_attempt m.rules m.alts m.queries m.answers m.services same) → endpoint_in answers rs e ≡ true
   listed_in e k =

@@ -1,4 +1,5 @@
 -- The order of the first records: what the origin wants next is the next of the origin's keys, and once it wants nothing they are all there.
+use Rattle.std.specs.Prelude.{Some, None}
 use Prim.Native.Nat.{ℕ, ◌≤◌}
 use mathlib.Core.Path.{◌≡◌, refl, sym, ap}
 use mathlib.Core.Bool.{Bool, true, false, not, cond, ◌&&◌}
@@ -18,10 +19,8 @@ use Rattle.records.specs.declared.queries.Kind.TheVariants.{Https, Aaaa, A}
 use Rattle.records.specs.declared.queries.Queries.{Queries}
 use Rattle.state.specs.State.{asked, https_place}
 use Rattle.starting.specs.Surveys.{is_kind, kinds_of}
-use Rattle.upcoming.specs.Wanted.{missing, origin_addresses, origin_wanted}
+use Rattle.upcoming.specs.Wanted.{Wanted, missing, origin_addresses, origin_wanted}
 use Rattle.starting.specs.declared.surveys.Kinds.{Kinds}
-use Rattle.upcoming.specs.declared.wanted.Wanted.{Wanted}
-use Rattle.upcoming.specs.declared.wanted.Wanted.TheVariants as wanted
 use Rattle.standing.specs.Standing.{Key, key_of, key_at, keys, is_key, agree, address_keys, keys_in, first_keys, origin_first}
 use Rattle.standing.proofs.Lists.{no, both, left, right}
 
@@ -63,12 +62,12 @@ same_kind f k h = sym (eqb-true _ _ (left _ _ h))
 
 -- what a wish of the origin says of the next key: it is that; if there is none, all are there
 abbrev pub Nexts : List Key → List Key → Wanted → Type 0
-Nexts fs ks wanted.Nothing = length fs ≤ length ks
-Nexts fs ks (wanted.Query k p) = get_or fs (length ks) (key_at k p) ≡ key_at k p
+Nexts fs ks None = length fs ≤ length ks
+Nexts fs ks (Some (k, p)) = get_or fs (length ks) (key_at k p) ≡ key_at k p
 
 pub past : (fs ks : List Key) (w : Wanted) → length fs ≤ length ks → Nexts fs ks w
-past fs ks wanted.Nothing h = h
-past fs ks (wanted.Query k p) h = get_or-eq_default fs (key_at k p) h
+past fs ks None h = h
+past fs ks (Some (k, p)) h = get_or-eq_default fs (key_at k p) h
 
 module _ (p : ℕ) where
   abbrev https : Key
@@ -81,10 +80,10 @@ module _ (p : ℕ) where
   four on = cond on (key_at A 0 ∷ []) []
 
   abbrev addresses : Bool → Bool → Kinds → Wanted
-  addresses s f k = cond (s && not k.aaaa) (wanted.Query Aaaa 0) (cond (f && not k.a) (wanted.Query A 0) wanted.Nothing)
+  addresses s f k = cond (s && not k.aaaa) (Some (Aaaa, 0)) (cond (f && not k.a) (Some (A, 0)) None)
 
   abbrev wants : Bool → Bool → Kinds → Wanted
-  wants s f k = cond k.https (addresses s f k) (wanted.Query Https p)
+  wants s f k = cond k.https (addresses s f k) (Some (Https, p))
 
   at-most-three : (s f : Bool) → length (https ∷ (six s ++ four f)) ≤ 3
   at-most-three true true = omega arith
@@ -104,10 +103,10 @@ module _ (p : ℕ) where
   ip-next false false (a ∷ b ∷ []) h = past (https ∷ []) (a ∷ b ∷ []) (wants false false (kinds_in (a ∷ b ∷ []))) (omega arith)
   ip-next s f (a ∷ b ∷ c ∷ l) h = past (https ∷ (six s ++ four f)) (a ∷ b ∷ c ∷ l) (wants s f (kinds_in (a ∷ b ∷ c ∷ l))) (omega (arith, at-most-three s f))
 
-  https-next : (ks : List Key) → agree (https ∷ []) ks ≡ true → Nexts (https ∷ []) ks (cond (some? (of_kind Https) ks) wanted.Nothing (wanted.Query Https p))
+  https-next : (ks : List Key) → agree (https ∷ []) ks ≡ true → Nexts (https ∷ []) ks (cond (some? (of_kind Https) ks) None (Some (Https, p)))
   unfolding agree some?
   https-next [] h = refl
-  https-next (a ∷ l) h = past (https ∷ []) (a ∷ l) (cond (some? (of_kind Https) (a ∷ l)) wanted.Nothing (wanted.Query Https p)) (omega arith)
+  https-next (a ∷ l) h = past (https ∷ []) (a ∷ l) (cond (some? (of_kind Https) (a ∷ l)) None (Some (Https, p))) (omega arith)
 
   -- no HTTPS key: no key at all
   pub none_yet : (fs ks : List Key) → agree (https ∷ fs) ks ≡ true → some? (of_kind Https) ks ≡ false → length ks ≡ 0
@@ -122,8 +121,8 @@ module _ (r : Rules) (ks : List Key) (h : origin_first r ks ≡ true) where
   unfolding origin_first first_keys origin_wanted address_keys missing
   origin-next = by (is_named r.host) r.mode h
     where
-      by : (b : Bool) (m : Mode) → agree (cond b (keys_in m r) []) ks ≡ true → Nexts (cond b (keys_in m r) []) ks (cond b (cond (some? (of_kind Https) ks) (origin_addresses m r.preference (kinds_in ks)) (wanted.Query Https (https_place r))) wanted.Nothing)
+      by : (b : Bool) (m : Mode) → agree (cond b (keys_in m r) []) ks ≡ true → Nexts (cond b (keys_in m r) []) ks (cond b (cond (some? (of_kind Https) ks) (origin_addresses m r.preference (kinds_in ks)) (Some (Https, (https_place r)))) None)
       by true mode.Ip e = ip-next (https_place r) (allows_six r.preference) (allows_four r.preference) ks e
-      by true mode.Name e = past [] ks (cond (some? (of_kind Https) ks) wanted.Nothing (wanted.Query Https (https_place r))) (omega arith)
+      by true mode.Name e = past [] ks (cond (some? (of_kind Https) ks) None (Some (Https, (https_place r)))) (omega arith)
       by true mode.NameWithHttpsRr e = https-next (https_place r) ks e
       by false m e = omega arith

@@ -1,4 +1,5 @@
 -- Whatever a call asks for may be asked for, and so every call keeps the standing rules.
+use Rattle.std.specs.Prelude.{Option, Some, None}
 use Prim.Native.Nat.{ℕ, suc, ◌+◌, ◌<◌, ◌≤◌}
 use mathlib.Core.Path.{◌≡◌, refl}
 use mathlib.Core.Bool.{Bool, true, false, not, cond, ◌||◌}
@@ -20,18 +21,12 @@ use Rattle.state.specs.State.{no_attempt, asked, tried, retries_of, is_open}
 use Rattle.state.specs.declared.Machine.{Machine}
 use Rattle.state.specs.declared.attempts.State.TheVariants.{Cancelled}
 use Rattle.input.specs.Input.{record_at, attempt_at}
-use Rattle.upcoming.specs.Next.{attempted, next_retry, next_endpoint}
+use Rattle.upcoming.specs.Next.{Next, attempted, next_retry, next_endpoint}
 use Rattle.starting.specs.Surveys.{first_place, tries_of, asks_of, hints_of, is_open_attempt, has_won_attempt, is_due, is_due_query}
 use Rattle.starting.specs.Starting.{attempt_left, resolution_left}
-use Rattle.upcoming.specs.Wanted.{next_query}
-use Rattle.upcoming.specs.declared.next.Next.{Next}
-use Rattle.upcoming.specs.declared.next.Next.TheVariants as next
+use Rattle.upcoming.specs.Wanted.{Wanted, next_query}
 use Rattle.starting.specs.declared.surveys.Tries.{Tries}
 use Rattle.starting.specs.declared.surveys.Asks.{Asks as Survey}
-use Rattle.starting.specs.declared.surveys.Place.{Place}
-use Rattle.starting.specs.declared.surveys.Place.TheVariants as place
-use Rattle.upcoming.specs.declared.wanted.Wanted.{Wanted}
-use Rattle.upcoming.specs.declared.wanted.Wanted.TheVariants as wanted
 use Rattle.machine.specs.Output.{end_wish, last_wish, timer_wish, refresh_wish, query_wish, attempt_wish, retry_wish, gate, wish_by, wish_of, reason_of, query_grant, attempt_grant, grant_of, granted}
 use Rattle.machine.specs.Steps.{called, turn_of, output_step}
 use Rattle.machine.specs.declared.grant.Turn.{Turn}
@@ -53,16 +48,16 @@ pub record Lies {A : Type 0} (test : A → Bool) (d : A) (i : ℕ) (l : List A) 
   pub within : place < length l
   pub passes : test (get_or l place d) ≡ true
 
-first-lies : {A : Type 0} (test : A → Bool) (d : A) (i : ℕ) (l : List A) (p : ℕ) → first_place test i l ≡ place.At p → Lies test d i l p
+first-lies : {A : Type 0} (test : A → Bool) (d : A) (i : ℕ) (l : List A) (p : ℕ) → first_place test i l ≡ Some p → Lies test d i l p
 unfolding first_place
 first-lies test d i [] p e = absurd (let z : ◌≡◌ {A = ℕ} 0 1 = cc in omega arith)
 first-lies test d i (x ∷ l) p e = go (test x) refl e (first-lies test d (i + 1) l p)
   where
-    go : (b : Bool) → test x ≡ b → cond b (place.At i) (first_place test (i + 1) l) ≡ place.At p → (first_place test (i + 1) l ≡ place.At p → Lies test d (i + 1) l p) → Lies test d i (x ∷ l) p
+    go : (b : Bool) → test x ≡ b → cond b (Some i) (first_place test (i + 1) l) ≡ Some p → (first_place test (i + 1) l ≡ Some p → Lies test d (i + 1) l p) → Lies test d i (x ∷ l) p
     go true t f r = let s : i ≡ p = cc in record { place = 0; from = omega arith; within = omega arith; passes = t }
     go false t f r = let w = r f in record { place = suc w.place; from = omega (arith, w.from); within = omega (arith, w.within); passes = w.passes }
 
-first_passes : {A : Type 0} (test : A → Bool) (d : A) (n : ℕ) (l : List A) (p : ℕ) → n ≤ length l → first_place test 0 (take n l) ≡ place.At p → (p < n) × (test (get_or l p d) ≡ true)
+first_passes : {A : Type 0} (test : A → Bool) (d : A) (n : ℕ) (l : List A) (p : ℕ) → n ≤ length l → first_place test 0 (take n l) ≡ Some p → (p < n) × (test (get_or l p d) ≡ true)
 first_passes test d n l p fit e =
     let w = first-lies test d 0 (take n l) p e in
     let z : w.place ≡ p = omega (arith, w.from) in
@@ -92,36 +87,36 @@ module _ (m : Machine) (h : Standing m) where
   Says (wish.Failed r) = Unit {0}
   Says wish.Waiting = Unit {0}
 
-  end-says : some? has_won_attempt (tried m.attempts) ≡ true → (p : Place) → first_place is_open_attempt 0 (tried m.attempts) ≡ p → Says (end_wish p)
-  end-says won (place.At p) e = let w = first_passes is_open_attempt no_attempt m.attempts.count m.attempts.list p (omega (arith, h.room.attempts.size, h.room.attempts.few)) e in (w.0, w.1, won)
-  end-says won place.Nowhere e = tt
+  end-says : some? has_won_attempt (tried m.attempts) ≡ true → (p : Option ℕ) → first_place is_open_attempt 0 (tried m.attempts) ≡ p → Says (end_wish p)
+  end-says won (Some p) e = let w = first_passes is_open_attempt no_attempt m.attempts.count m.attempts.list p (omega (arith, h.room.attempts.size, h.room.attempts.few)) e in (w.0, w.1, won)
+  end-says won None e = tt
 
-  refresh-says : (rest : Wish) → Says rest → (p : Place) → first_place is_due_query 0 (asked m.queries) ≡ p → Says (refresh_wish p rest)
-  refresh-says rest f (place.At p) e =
+  refresh-says : (rest : Wish) → Says rest → (p : Option ℕ) → first_place is_due_query 0 (asked m.queries) ≡ p → Says (refresh_wish p rest)
+  refresh-says rest f (Some p) e =
       let w = first_passes is_due_query no_query m.queries.count m.queries.list p (omega (arith, h.room.queries.size, h.room.queries.few)) e in
       let d = due-now (record_at m.queries p).stale (record_at m.queries p).refresh w.1 in
       (w.0, d.0, d.1)
-  refresh-says rest f place.Nowhere e = f
+  refresh-says rest f None e = f
 
   if-says : (b : Bool) (v w : Wish) → (b ≡ true → Says v) → Says w → Says (cond b v w)
   if-says true v w f g = f refl
   if-says false v w f g = g
 
   retry-says : (n : Next) (rest : Wish) → Known m h fresh n → Says rest → Says (retry_wish n rest)
-  retry-says (next.New e) rest f g = f
-  retry-says next.Nothing rest f g = g
+  retry-says (Some e) rest f g = f
+  retry-says None rest f g = g
 
   attempt-says : (n : Next) (rest : Wish) → Known m h fresh n → Says rest → Says (attempt_wish n rest)
-  attempt-says (next.New e) rest f g = f
-  attempt-says next.Nothing rest f g = g
+  attempt-says (Some e) rest f g = f
+  attempt-says None rest f g = g
 
-  gated : (b : Bool) (n : Next) → Known m h fresh n → Known m h fresh (cond b n next.Nothing)
+  gated : (b : Bool) (n : Next) → Known m h fresh n → Known m h fresh (cond b n None)
   gated true n f = f
   gated false n f = tt
 
   want-says : (w : Wanted) (rest : Wish) → Asks m h w → Says rest → Says (query_wish w rest)
-  want-says (wanted.Query k p) rest f g = f
-  want-says wanted.Nothing rest f g = g
+  want-says (Some (k, p)) rest f g = f
+  want-says None rest f g = g
 
   timer-says : (a r : ℕ) (rest : Wish) → Says rest → Says (timer_wish a r rest)
   unfolding timer_wish
@@ -138,7 +133,7 @@ module _ (m : Machine) (h : Standing m) where
       if-says (some? has_won_attempt (tried m.attempts)) (end_wish (first_place is_open_attempt 0 (tried m.attempts))) _
       (λ e. end-says e (first_place is_open_attempt 0 (tried m.attempts)) refl)
       (retry-says (next_retry alike m.attempts m.retries) _ (retry-known m h alike)
-      (attempt-says (cond (gate m.rules m.timing (tries_of m.attempts) (asks_of m.queries) (hints_of m.services) now) (next_endpoint alike m.rules m.alts m.queries m.answers m.services m.attempts (same_at m.names)) next.Nothing) _
+      (attempt-says (cond (gate m.rules m.timing (tries_of m.attempts) (asks_of m.queries) (hints_of m.services) now) (next_endpoint alike m.rules m.alts m.queries m.answers m.services m.attempts (same_at m.names)) None) _
       (gated (gate m.rules m.timing (tries_of m.attempts) (asks_of m.queries) (hints_of m.services) now) (next_endpoint alike m.rules m.alts m.queries m.answers m.services m.attempts (same_at m.names)) (next_known m h alike))
       (want-says (next_query m.rules m.alts m.queries m.services (same_at m.names)) _ (query-says m h)
       (refresh-says (timer_wish (attempt_left m.timing (tries_of m.attempts) now) (resolution_left m.timing (asks_of m.queries) now) (last_wish (tries_of m.attempts) (asks_of m.queries) m.attempts.count))

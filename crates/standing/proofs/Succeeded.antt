@@ -1,4 +1,5 @@
 -- Succeeded is stable: once it is given, every later call gives it, whatever comes in between.
+use Rattle.std.specs.Prelude.{Option, Some, None}
 use Prim.Native.Nat.{ℕ, zero, suc, ◌+◌, ◌<◌}
 use mathlib.Core.Path.{◌≡◌, refl, sym, ap, ◌∙◌}
 use mathlib.Core.Bool.{Bool, true, false, cond, ◌||◌}
@@ -24,17 +25,11 @@ use Rattle.input.specs.Input.{record_at, attempt_at, with_answer, is_failed, sto
 use Rattle.input.specs.Verdicts.{attempts_in, Answered, Ended, Ends, refresh_after}
 use Rattle.input.specs.declared.Outcome.{Outcome}
 use Rattle.starting.specs.Surveys.{first_place, tries_of, asks_of, hints_of, is_open_attempt}
-use Rattle.upcoming.specs.Next.{next_retry, next_endpoint}
-use Rattle.upcoming.specs.Wanted.{next_query}
+use Rattle.upcoming.specs.Next.{Next, next_retry, next_endpoint}
+use Rattle.upcoming.specs.Wanted.{Wanted, next_query}
 use Rattle.starting.specs.Starting.{attempt_left, resolution_left}
-use Rattle.upcoming.specs.declared.next.Next.{Next}
-use Rattle.upcoming.specs.declared.next.Next.TheVariants as next
 use Rattle.starting.specs.declared.surveys.Tries.{Tries}
 use Rattle.starting.specs.declared.surveys.Asks.{Asks}
-use Rattle.starting.specs.declared.surveys.Place.{Place}
-use Rattle.starting.specs.declared.surveys.Place.TheVariants as place
-use Rattle.upcoming.specs.declared.wanted.Wanted.{Wanted}
-use Rattle.upcoming.specs.declared.wanted.Wanted.TheVariants as wanted
 use Rattle.after.specs.After.{attempts_fed}
 use Rattle.machine.specs.Output.{end_wish, last_wish, timer_wish, refresh_wish, query_wish, attempt_wish, retry_wish, gate, wish_by, wish_of, reason_of, query_grant, attempt_grant, grant_of, granted}
 use Rattle.machine.specs.Steps.{turn_of, output_step, input_step}
@@ -105,17 +100,17 @@ no_last tries asks count = either (asks.pending || (asks.flying || nat_lt 0 trie
 -- an attempt has won, and none is in progress
 pub record Over (a : Attempts) : Type 0 where
   pub won : (tries_of a).won ≡ true
-  pub closed : (tries_of a).first ≡ place.Nowhere
+  pub closed : (tries_of a).first ≡ None
 
-over_by : (won : Bool) (first : Place) (retry new : Next) (w : Wanted) (due : Place) (rest : Wish) → is_end rest ≡ false
-    → is_end (cond won (end_wish first) (retry_wish retry (attempt_wish new (query_wish w (refresh_wish due rest))))) ≡ true → (won ≡ true) × (first ≡ place.Nowhere)
-over_by true (place.At p) retry new w due rest f e = absurd (no e)
-over_by true place.Nowhere retry new w due rest f e = (refl, refl)
-over_by false first (next.New x) new w due rest f e = absurd (no e)
-over_by false first next.Nothing (next.New x) w due rest f e = absurd (no e)
-over_by false first next.Nothing next.Nothing (wanted.Query k p) due rest f e = absurd (no e)
-over_by false first next.Nothing next.Nothing wanted.Nothing (place.At p) rest f e = absurd (no e)
-over_by false first next.Nothing next.Nothing wanted.Nothing place.Nowhere rest f e = absurd (no (sym f ∙ e))
+over_by : (won : Bool) (first : Option ℕ) (retry new : Next) (w : Wanted) (due : Option ℕ) (rest : Wish) → is_end rest ≡ false
+    → is_end (cond won (end_wish first) (retry_wish retry (attempt_wish new (query_wish w (refresh_wish due rest))))) ≡ true → (won ≡ true) × (first ≡ None)
+over_by true (Some p) retry new w due rest f e = absurd (no e)
+over_by true None retry new w due rest f e = (refl, refl)
+over_by false first (Some x) new w due rest f e = absurd (no e)
+over_by false first None (Some x) w due rest f e = absurd (no e)
+over_by false first None None (Some (k, p)) due rest f e = absurd (no e)
+over_by false first None None None (Some p) rest f e = absurd (no e)
+over_by false first None None None None rest f e = absurd (no (sym f ∙ e))
 
 wished-over : (m : Machine) (now : ℕ) → is_end (wish_of m now) ≡ true → Over m.attempts
 unfolding wish_of wish_by
@@ -124,7 +119,7 @@ wished-over m now e =
     let tries = tries_of m.attempts in
     let asks = asks_of m.queries in
     let f = over_by tries.won tries.first (next_retry alike m.attempts m.retries)
-    (cond (gate m.rules m.timing tries asks (hints_of m.services) now) (next_endpoint alike m.rules m.alts m.queries m.answers m.services m.attempts (same_at m.names)) next.Nothing)
+    (cond (gate m.rules m.timing tries asks (hints_of m.services) now) (next_endpoint alike m.rules m.alts m.queries m.answers m.services m.attempts (same_at m.names)) None)
     (next_query m.rules m.alts m.queries m.services (same_at m.names)) asks.due
     (timer_wish (attempt_left m.timing tries now) (resolution_left m.timing asks now) (last_wish tries asks m.attempts.count))
     (no-timer (attempt_left m.timing tries now) (resolution_left m.timing asks now) (last_wish tries asks m.attempts.count) (no_last tries asks m.attempts.count))
@@ -156,11 +151,11 @@ stored_same a p x failed round Aaaa = refl
 stored_same a p x failed round A = refl
 
 -- where the first that passes is nowhere, none passes
-nowhere : (t : Bool) (i : ℕ) (p : Place) → cond t (place.At i) p ≡ place.Nowhere → (t ≡ false) × (p ≡ place.Nowhere)
+nowhere : (t : Bool) (i : ℕ) (p : Option ℕ) → cond t (Some i) p ≡ None → (t ≡ false) × (p ≡ None)
 nowhere true i p e = absurd (let z : ◌≡◌ {A = ℕ} 0 1 = cc in omega arith)
 nowhere false i p e = (refl, e)
 
-none_passes : {B : Type 0} (test : B → Bool) (i : ℕ) (l : List B) (p : ℕ) (d : B) → first_place test i l ≡ place.Nowhere → p < length l
+none_passes : {B : Type 0} (test : B → Bool) (i : ℕ) (l : List B) (p : ℕ) (d : B) → first_place test i l ≡ None → p < length l
     → test (get_or l p d) ≡ true → ⊥
 unfolding first_place
 none_passes test i [] p d e b f = omega arith

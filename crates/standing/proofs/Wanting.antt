@@ -1,5 +1,6 @@
 -- A query that is wanted may be asked: its name's place is known, no record is for the same, an HTTPS record comes first, and the origin's come
 -- in their order.
+use Rattle.std.specs.Prelude.{Some, None}
 use Prim.Native.Nat.{ℕ, suc, ◌+◌, ◌*◌, ◌<◌, ◌≤◌}
 use mathlib.Core.Path.{◌≡◌, refl, sym, ap, ◌∙◌}
 use mathlib.Core.Logic.{◌⊎◌, inl, inr, ⊎_elim}
@@ -29,9 +30,7 @@ use Rattle.records.specs.declared.queries.Query.{Query}
 use Rattle.records.specs.declared.queries.Queries.{Queries}
 use Rattle.state.specs.State.{asked, is_prefixed, https_place}
 use Rattle.state.specs.declared.Machine.{Machine}
-use Rattle.upcoming.specs.Wanted.{or_wanted, first_wanted, is_asked_at, is_asked, asked_for, is_missing, missing, place_wanted, origin_addresses, origin_wanted, target_wanted, targets_wanted, own_name, alt_wanted, alts_wanted, wanted_in, wanted_by, next_query}
-use Rattle.upcoming.specs.declared.wanted.Wanted.{Wanted}
-use Rattle.upcoming.specs.declared.wanted.Wanted.TheVariants as wanted
+use Rattle.upcoming.specs.Wanted.{Wanted, or_wanted, first_wanted, is_asked_at, is_asked, asked_for, is_missing, missing, place_wanted, origin_addresses, origin_wanted, target_wanted, targets_wanted, own_name, alt_wanted, alts_wanted, wanted_in, wanted_by, next_query}
 use Rattle.standing.specs.Lists.{◌and◌, ◌or◌, every}
 use Rattle.standing.specs.Standing.{zero?, Key, key_of, key_at, keys, same_key, is_https, agree, keys_in, first_keys, origin_first, phase_of, query_phase, phase, holds_https, query_holds, holding, name_needs, named, service_stands, served}
 use Rattle.standing.proofs.Lists.{no, rule, or-second, every-imp, every_map, none_passes, eqb-sym, at_at}
@@ -140,8 +139,8 @@ module _ (m : Machine) (h : Standing m) where
   few-services = omega (arith, length-take m.services.count m.services.list, h.room.services.size)
 
   abbrev pub Asks : Wanted → Type 0
-  Asks wanted.Nothing = Unit {0}
-  Asks (wanted.Query k p) = Wants m k p
+  Asks None = Unit {0}
+  Asks (Some (k, p)) = Wants m k p
 
   -- a query beside the origin's
   record Beside (k : Kind) (p : ℕ) : Type 0 where
@@ -150,14 +149,14 @@ module _ (m : Machine) (h : Standing m) where
     plain : is_https k ≡ false
 
   abbrev SaysBeside : Wanted → Type 0
-  SaysBeside wanted.Nothing = Unit {0}
-  SaysBeside (wanted.Query k p) = Beside k p
+  SaysBeside None = Unit {0}
+  SaysBeside (Some (k, p)) = Beside k p
 
   or-beside : (w v : Wanted) → SaysBeside w → SaysBeside v → SaysBeside (or_wanted w v)
-  or-beside wanted.Nothing v f g = g
-  or-beside (wanted.Query k p) v f g = f
+  or-beside None v f g = g
+  or-beside (Some (k, p)) v f g = f
 
-  if-beside : (b : Bool) (w : Wanted) → SaysBeside w → SaysBeside (cond b w wanted.Nothing)
+  if-beside : (b : Bool) (w : Wanted) → SaysBeside w → SaysBeside (cond b w None)
   if-beside true w f = f
   if-beside false w f = tt
 
@@ -171,7 +170,7 @@ module _ (m : Machine) (h : Standing m) where
   place-says pref p known = go (is_missing (allows_six pref) (some? (is_asked_at (same_at m.names) Aaaa p) (asked q))) (is_missing (allows_four pref) (some? (is_asked_at (same_at m.names) A p) (asked q))) refl refl
     where
       go : (a b : Bool) → is_missing (allows_six pref) (some? (is_asked_at (same_at m.names) Aaaa p) (asked q)) ≡ a → is_missing (allows_four pref) (some? (is_asked_at (same_at m.names) A p) (asked q)) ≡ b
-          → SaysBeside (cond a (wanted.Query Aaaa p) (cond b (wanted.Query A p) wanted.Nothing))
+          → SaysBeside (cond a (Some (Aaaa, p)) (cond b (Some (A, p)) None))
       go true b e f = record { known = known; new = new-key m.names q Aaaa p (was-missing (allows_six pref) _ e); plain = refl }
       go false true e f = record { known = known; new = new-key m.names q A p (was-missing (allows_four pref) _ f); plain = refl }
       go false false e f = tt
@@ -213,29 +212,29 @@ module _ (m : Machine) (h : Standing m) where
     first : is_https k ≡ true → length ks ≡ 0
 
   abbrev SaysOrigin : Wanted → Type 0
-  SaysOrigin wanted.Nothing = Unit {0}
-  SaysOrigin (wanted.Query k p) = Origins k p
+  SaysOrigin None = Unit {0}
+  SaysOrigin (Some (k, p)) = Origins k p
 
   address-says : SaysOrigin (missing m.rules.preference (record { six = some? (of_kind Aaaa) ks; four = some? (of_kind A) ks }) 0)
   unfolding missing
   address-says = go (is_missing (allows_six m.rules.preference) (some? (of_kind Aaaa) ks)) (is_missing (allows_four m.rules.preference) (some? (of_kind A) ks)) refl refl
     where
       go : (a b : Bool) → is_missing (allows_six m.rules.preference) (some? (of_kind Aaaa) ks) ≡ a → is_missing (allows_four m.rules.preference) (some? (of_kind A) ks) ≡ b
-          → SaysOrigin (cond a (wanted.Query Aaaa 0) (cond b (wanted.Query A 0) wanted.Nothing))
+          → SaysOrigin (cond a (Some (Aaaa, 0)) (cond b (Some (A, 0)) None))
       go true b e f = record { known = setting-named (phase q) 0 (omega arith); none = was-missing (allows_six m.rules.preference) _ e; first = λ g. absurd (no g) }
       go false true e f = record { known = setting-named (phase q) 0 (omega arith); none = was-missing (allows_four m.rules.preference) _ f; first = λ g. absurd (no g) }
       go false false e f = tt
 
   -- in a mode that asks for the HTTPS record
-  https-says : (fs : List Key) (w : Wanted) → agree (key_at Https (https_place m.rules) ∷ fs) ks ≡ true → SaysOrigin w → SaysOrigin (cond (some? (of_kind Https) ks) w (wanted.Query Https (https_place m.rules)))
+  https-says : (fs : List Key) (w : Wanted) → agree (key_at Https (https_place m.rules) ∷ fs) ks ≡ true → SaysOrigin w → SaysOrigin (cond (some? (of_kind Https) ks) w (Some (Https, (https_place m.rules))))
   https-says fs w h f = go (some? (of_kind Https) ks) refl
     where
-      go : (b : Bool) → some? (of_kind Https) ks ≡ b → SaysOrigin (cond b w (wanted.Query Https (https_place m.rules)))
+      go : (b : Bool) → some? (of_kind Https) ks ≡ b → SaysOrigin (cond b w (Some (Https, (https_place m.rules))))
       go true e = f
       go false e = record { known = https-place m.rules (phase q); none = e; first = λ g. none_yet (https_place m.rules) fs ks h e }
 
   -- from what the origin wants, and from what is wanted beside it
-  origin-wants : (k : Kind) (p : ℕ) → Origins k p → origin_wanted m.rules (kinds_in ks) ≡ wanted.Query k p → Wants m k p
+  origin-wants : (k : Kind) (p : ℕ) → Origins k p → origin_wanted m.rules (kinds_in ks) ≡ Some (k, p) → Wants m k p
   unfolding origin_first
   origin-wants k p o e =
       record {
@@ -245,34 +244,34 @@ module _ (m : Machine) (h : Standing m) where
         order = agree-next (first_keys m.rules) ks (key_at k p) (rw e at (origin-next m.rules ks h.order)) h.order;
       }
 
-  beside-wants : (k : Kind) (p : ℕ) → Beside k p → origin_wanted m.rules (kinds_in ks) ≡ wanted.Nothing → Wants m k p
+  beside-wants : (k : Kind) (p : ℕ) → Beside k p → origin_wanted m.rules (kinds_in ks) ≡ None → Wants m k p
   unfolding origin_first
   beside-wants k p o e =
       record {
         known = o.known;
         new = o.new;
         first = λ g. absurd (no (sym o.plain ∙ g));
-        order = agree-next (first_keys m.rules) ks (key_at k p) (past (first_keys m.rules) ks (wanted.Query k p) (rw e at (origin-next m.rules ks h.order))) h.order;
+        order = agree-next (first_keys m.rules) ks (key_at k p) (past (first_keys m.rules) ks (Some (k, p)) (rw e at (origin-next m.rules ks h.order))) h.order;
       }
 
   origin-or : (w : Wanted) → SaysOrigin w → origin_wanted m.rules (kinds_in ks) ≡ w → (v : Wanted) → SaysBeside v → Asks (or_wanted w v)
-  origin-or (wanted.Query k p) f e v g = origin-wants k p f e
-  origin-or wanted.Nothing f e (wanted.Query k p) g = beside-wants k p g e
-  origin-or wanted.Nothing f e wanted.Nothing g = tt
+  origin-or (Some (k, p)) f e v g = origin-wants k p f e
+  origin-or None f e (Some (k, p)) g = beside-wants k p g e
+  origin-or None f e None g = tt
 
   origin-alone : (w : Wanted) → SaysOrigin w → origin_wanted m.rules (kinds_in ks) ≡ w → Asks w
-  origin-alone (wanted.Query k p) f e = origin-wants k p f e
-  origin-alone wanted.Nothing f e = tt
+  origin-alone (Some (k, p)) f e = origin-wants k p f e
+  origin-alone None f e = tt
 
   -- by the mode
   abbrev origin_is : Bool → Mode → Wanted
-  origin_is b d = cond b (cond (some? (of_kind Https) ks) (origin_addresses d m.rules.preference (kinds_in ks)) (wanted.Query Https (https_place m.rules))) wanted.Nothing
+  origin_is b d = cond b (cond (some? (of_kind Https) ks) (origin_addresses d m.rules.preference (kinds_in ks)) (Some (Https, (https_place m.rules)))) None
 
   mode-says : (b : Bool) (d : Mode) → agree (cond b (keys_in d m.rules) []) ks ≡ true → origin_wanted m.rules (kinds_in ks) ≡ origin_is b d → Asks (wanted_in d (origin_is b d) others)
   mode-says true mode.Ip f e = origin-or (origin_is true mode.Ip) (https-says _ _ f address-says) e others others-say
   mode-says true mode.Name f e = tt
   mode-says true mode.NameWithHttpsRr f e = origin-alone (origin_is true mode.NameWithHttpsRr) (https-says _ _ f tt) e
-  mode-says false mode.Ip f e = origin-or wanted.Nothing tt e others others-say
+  mode-says false mode.Ip f e = origin-or None tt e others others-say
   mode-says false mode.Name f e = tt
   mode-says false mode.NameWithHttpsRr f e = tt
 

@@ -1,4 +1,5 @@
 -- What gate and timers come to: the gate is shut exactly while the attempt timer is given, whatever the clock does.
+use Rattle.std.specs.Prelude.{Option, Some, None}
 use Prim.Native.Nat.{ℕ, ◌-◌, ◌≤◌, ◌<◌, min, max}
 use mathlib.Core.Path.{◌≡◌, refl, sym, ap, ◌∙◌}
 use mathlib.Core.Bool.{Bool, true, false, not, cond}
@@ -13,8 +14,6 @@ use Rattle.records.specs.declared.rules.Timing.{Timing}
 use Rattle.records.specs.declared.queries.Queries.{Queries}
 use Rattle.state.specs.State.{asked, tried}
 use Rattle.state.specs.declared.attempts.Attempts.{Attempts}
-use Rattle.starting.specs.declared.surveys.Moment.{Moment}
-use Rattle.starting.specs.declared.surveys.Moment.TheVariants as moment
 use Rattle.starting.specs.Surveys.{later_of, sooner_of, latest_of, oldest_of, starts, answer_times, tries_of, asks_of}
 use Rattle.starting.specs.Starting.{elapsed, left_of, attempt_delay, attempt_left, within_delay, resolution_met}
 
@@ -46,9 +45,9 @@ starts-left d now (s ∷ l) = go (latest_of l) (starts-left d now l)
     one true = refl
     one false = refl
 
-    go : (m : Moment) → some? (λ t. nat_lt (now - t) d) l ≡ nat_lt 0 (left_of d m now) → cond (nat_lt (now - s) d) true (some? (λ t. nat_lt (now - t) d) l) ≡ nat_lt 0 (left_of d (later_of s m) now)
-    go moment.Never e = ap (cond (nat_lt (now - s) d) true) e ∙ (one (nat_lt (now - s) d) ∙ left-while d (now - s))
-    go (moment.At u) e = ap (cond (nat_lt (now - s) d) true) e ∙ later-left d now s u
+    go : (m : Option ℕ) → some? (λ t. nat_lt (now - t) d) l ≡ nat_lt 0 (left_of d m now) → cond (nat_lt (now - s) d) true (some? (λ t. nat_lt (now - t) d) l) ≡ nat_lt 0 (left_of d (later_of s m) now)
+    go None e = ap (cond (nat_lt (now - s) d) true) e ∙ (one (nat_lt (now - s) d) ∙ left-while d (now - s))
+    go (Some u) e = ap (cond (nat_lt (now - s) d) true) e ∙ later-left d now s u
 
 answers-met : (d now : ℕ) (l : List ℕ) → some? (λ t. nat_le d (elapsed now t)) l ≡ resolution_met d (oldest_of l) now
 unfolding some? oldest_of elapsed
@@ -59,9 +58,9 @@ answers-met d now (s ∷ l) = go (oldest_of l) (answers-met d now l)
     one true = refl
     one false = refl
 
-    go : (m : Moment) → some? (λ t. nat_le d (now - t)) l ≡ resolution_met d m now → cond (nat_le d (now - s)) true (some? (λ t. nat_le d (now - t)) l) ≡ resolution_met d (sooner_of s m) now
-    go moment.Never e = ap (cond (nat_le d (now - s)) true) e ∙ one (nat_le d (now - s))
-    go (moment.At u) e = ap (cond (nat_le d (now - s)) true) e ∙ sooner-met d now s u
+    go : (m : Option ℕ) → some? (λ t. nat_le d (now - t)) l ≡ resolution_met d m now → cond (nat_le d (now - s)) true (some? (λ t. nat_le d (now - t)) l) ≡ resolution_met d (sooner_of s m) now
+    go None e = ap (cond (nat_le d (now - s)) true) e ∙ one (nat_le d (now - s))
+    go (Some u) e = ap (cond (nat_le d (now - s)) true) e ∙ sooner-met d now s u
 
 -- some attempt in progress is within the delay exactly while something is left since the latest start: gate and timer never disagree
 pub gate-is-timer : (t : Timing) (a : Attempts) (now : ℕ) → within_delay t a now ≡ nat_lt 0 (attempt_left t (tries_of a) now)
@@ -78,8 +77,8 @@ unfolding asks_of
 oldest-meets t q now = answers-met t.resolution now (answer_times (asked q))
 
 -- "the resolution delay is met at equality", and while nothing is left of it
-pub met-at-equality : (d now s : ℕ) → elapsed now s ≡ d → resolution_met d (moment.At s) now ≡ true
+pub met-at-equality : (d now s : ℕ) → elapsed now s ≡ d → resolution_met d (Some s) now ≡ true
 met-at-equality d now s e = le-leb d (elapsed now s) (omega (arith, e))
 
-pub met-or-left : (d now s : ℕ) → resolution_met d (moment.At s) now ≡ not (nat_lt 0 (left_of d (moment.At s) now))
+pub met-or-left : (d now s : ℕ) → resolution_met d (Some s) now ≡ not (nat_lt 0 (left_of d (Some s) now))
 met-or-left d now s = met-while d (elapsed now s)

@@ -1,11 +1,15 @@
 -- Looking at the records one after the other: what is noted of the first ones, with what there is in the rest, is what there is in all.
-use Prim.Native.Nat.{ℕ, ◌+◌, ◌≤◌, ◌<◌}
+use Rattle.std.specs.Prelude.{Option, Some, None}
+use Prim.Native.Nat.{ℕ, ◌+◌, ◌≤◌, ◌<◌, min}
+use native.Mathlib.Numerals.{add-one}
+use Rattle.std.proofs.lemmas.List.{take_min}
 use mathlib.Core.Path.{◌≡◌, refl, sym, ap, ◌∙◌}
 use mathlib.Core.Bool.{Bool, true, false, not, cond, ◌&&◌, ◌||◌}
 use mathlib.Core.List.{List, [], ◌∷◌}
 use native.Mathlib.Omega.{arith}
 use lib.Dec.{eqb as nat_eq}
-use lib.ListN.{length, take, drop, get_or}
+use lib.ListN.{length, take, drop, get_or, drop_of_length-le}
+use lib.Seq.{drop-cons}
 use Rattle.records.specs.Lists.{some?}
 use Rattle.records.specs.Numbers.{kind_number}
 use Rattle.records.specs.Queries.{no_query, answered}
@@ -16,18 +20,22 @@ use Rattle.records.specs.declared.queries.Answer.TheVariants as answer
 use Rattle.records.specs.declared.queries.Query.{Query}
 use Rattle.records.specs.declared.queries.Queries.{Queries}
 use Rattle.records.proofs.Walk.{rest_more, rest-none, rest_end}
-use Rattle.state.specs.State.{tried, no_attempt, is_open}
+use Rattle.state.specs.State.{asked, tried, no_attempt, is_open}
 use Rattle.state.specs.declared.attempts.Attempt.{Attempt}
 use Rattle.state.specs.declared.attempts.Attempts.{Attempts}
-use Rattle.starting.specs.declared.surveys.Moment.{Moment}
-use Rattle.starting.specs.declared.surveys.Moment.TheVariants as moment
-use Rattle.starting.specs.declared.surveys.Place.{Place}
-use Rattle.starting.specs.declared.surveys.Place.TheVariants as place
 use Rattle.starting.specs.declared.surveys.Kinds.{Kinds}
 use Rattle.starting.specs.declared.surveys.Tries.{Tries}
 use Rattle.starting.specs.declared.surveys.Asks.{Asks}
 use Rattle.starting.specs.Surveys.{first_place, later_of, sooner_of, latest_of, oldest_of, starts, is_open_attempt, has_won_attempt, tries_of, is_kind, is_answered, is_answered_kind, kinds_of, came, answer_times, has_address, is_flying, is_due_query, asks_of}
 use Rattle.starting.specs.Noting.{or_place, place_if, one_if, later_if, sooner_by, noted_attempt, no_kinds, with_kind, noted_query}
+
+-- a list cut at its room is the list cut
+pub first-all : {A : Type 0} (k n : ℕ) (l : List A) → length l ≡ k → take (min n k) l ≡ take n l
+first-all k n l e = rw (← e) (take_min n l)
+
+-- the rest from i on is the member at i and the rest behind it
+rest : {A : Type 0} (l : List A) (i : ℕ) (d : A) → i < length l → drop i l ≡ get_or l i d ∷ drop (i + 1) l
+rest l i d h = rw add-one (drop-cons l i d h)
 
 -- one more of each kind: a test, a place, a number, a moment
 or-more : (a b : Bool) (c : Bool) → (a || b) || c ≡ a || cond b true c
@@ -39,44 +47,44 @@ or-end : (a : Bool) → a || false ≡ a
 or-end true = refl
 or-end false = refl
 
-place-more : (p : Place) (b : Bool) (i : ℕ) (q : Place) → or_place (or_place p (place_if b i)) q ≡ or_place p (cond b (place.At i) q)
-place-more place.Nowhere true i q = refl
-place-more place.Nowhere false i q = refl
-place-more (place.At j) b i q = refl
+place-more : (p : Option ℕ) (b : Bool) (i : ℕ) (q : Option ℕ) → or_place (or_place p (place_if b i)) q ≡ or_place p (cond b (Some i) q)
+place-more None true i q = refl
+place-more None false i q = refl
+place-more (Some j) b i q = refl
 
-place_end : (p : Place) → or_place p place.Nowhere ≡ p
-place_end place.Nowhere = refl
-place_end (place.At j) = refl
+place_end : (p : Option ℕ) → or_place p None ≡ p
+place_end None = refl
+place_end (Some j) = refl
 
-abbrev later_both : Moment → Moment → Moment
-later_both moment.Never n = n
-later_both (moment.At t) n = later_of t n
+abbrev later_both : Option ℕ → Option ℕ → Option ℕ
+later_both None n = n
+later_both (Some t) n = later_of t n
 
-abbrev sooner_both : Moment → Moment → Moment
-sooner_both moment.Never n = n
-sooner_both (moment.At t) n = sooner_of t n
+abbrev sooner_both : Option ℕ → Option ℕ → Option ℕ
+sooner_both None n = n
+sooner_both (Some t) n = sooner_of t n
 
-later-one : (m : Moment) (t : ℕ) (n : Moment) → later_both (later_of t m) n ≡ later_both m (later_of t n)
-later-one moment.Never t n = refl
-later-one (moment.At u) t moment.Never = ap moment.At (omega arith)
-later-one (moment.At u) t (moment.At v) = ap moment.At (omega arith)
+later-one : (m : Option ℕ) (t : ℕ) (n : Option ℕ) → later_both (later_of t m) n ≡ later_both m (later_of t n)
+later-one None t n = refl
+later-one (Some u) t None = ap Some (omega arith)
+later-one (Some u) t (Some v) = ap Some (omega arith)
 
-sooner-one : (m : Moment) (t : ℕ) (n : Moment) → sooner_both (sooner_of t m) n ≡ sooner_both m (sooner_of t n)
-sooner-one moment.Never t n = refl
-sooner-one (moment.At u) t moment.Never = ap moment.At (omega arith)
-sooner-one (moment.At u) t (moment.At v) = ap moment.At (omega arith)
+sooner-one : (m : Option ℕ) (t : ℕ) (n : Option ℕ) → sooner_both (sooner_of t m) n ≡ sooner_both m (sooner_of t n)
+sooner-one None t n = refl
+sooner-one (Some u) t None = ap Some (omega arith)
+sooner-one (Some u) t (Some v) = ap Some (omega arith)
 
-later-end : (m : Moment) → later_both m moment.Never ≡ m
-later-end moment.Never = refl
-later-end (moment.At t) = refl
+later-end : (m : Option ℕ) → later_both m None ≡ m
+later-end None = refl
+later-end (Some t) = refl
 
-sooner-end : (m : Moment) → sooner_both m moment.Never ≡ m
-sooner-end moment.Never = refl
-sooner-end (moment.At t) = refl
+sooner-end : (m : Option ℕ) → sooner_both m None ≡ m
+sooner-end None = refl
+sooner-end (Some t) = refl
 
 -- Attempts
 
-start-more : (m : Moment) (b : Bool) (t : ℕ) (l : List ℕ) → later_both (later_if m b t) (latest_of l) ≡ later_both m (latest_of (cond b (t ∷ l) l))
+start-more : (m : Option ℕ) (b : Bool) (t : ℕ) (l : List ℕ) → later_both (later_if m b t) (latest_of l) ≡ later_both m (latest_of (cond b (t ∷ l) l))
 unfolding latest_of
 start-more m true t l = later-one m t (latest_of l)
 start-more m false t l = refl
@@ -104,40 +112,42 @@ tried-end : (t : Tries) (i : ℕ) → with_tried t i [] ≡ t
 unfolding with_tried some? starts first_place latest_of
 tried-end t i = rw (or-end t.won, later-end t.latest, place_end t.first) (let z : t.active + 0 ≡ t.active = omega arith in ap (λ n. record { won = t.won; active = n; latest = t.latest; first = t.first }) z)
 
--- how far the code has come: what is noted, with the rest, is all
-pub record Tried (a : Attempts) (i : ℕ) (t : Tries) : Type 0 where
-  pub within : i ≤ 32
-  pub few : t.active ≤ i
-  pub rest : with_tried t i (drop i (take a.count a.list)) ≡ tries_of a
+abbrev no_tries : Tries
+no_tries = record { won = false; active = 0; latest = None; first = None }
 
-pub tried-none : (a : Attempts) → Tried a 0 (record { won = false; active = 0; latest = moment.Never; first = place.Nowhere })
+all_tried : (a : Attempts) → with_tried no_tries 0 (tried a) ≡ tries_of a
 unfolding with_tried tries_of
-tried-none a = record { within = omega arith; few = omega arith; rest = ap (λ n. record { won = some? has_won_attempt (tried a); active = n; latest = latest_of (starts (tried a)); first = first_place is_open_attempt 0 (tried a) }) (omega arith) }
+all_tried a = ap (λ n. record { won = some? has_won_attempt (tried a); active = n; latest = latest_of (starts (tried a)); first = first_place is_open_attempt 0 (tried a) }) (omega arith)
+
+-- how far the code has come: what is noted, with the rest, is all
+pub record Tried (l : List Attempt) (i : ℕ) (t : Tries) : Type 0 where
+  pub few : t.active ≤ i
+  pub rest : with_tried t i (drop i l) ≡ with_tried no_tries 0 l
 
 one_at_most : (b : Bool) → one_if b ≤ 1
 one_at_most true = omega arith
 one_at_most false = omega arith
 
-module _ (a : Attempts) (i : ℕ) (t : Tries) (v : Tried a i t) where
-  pub tried-past : a.count ≤ i → t ≡ tries_of a
-  tried-past h = sym (tried-end t i) ∙ (ap (with_tried t i) (sym (rest-none a.count a.list i h)) ∙ v.rest)
+pub tried-none : (l : List Attempt) → Tried l 0 no_tries
+tried-none l = record { few = omega arith; rest = refl }
 
-  pub tried-all : length a.list ≤ i → t ≡ tries_of a
-  tried-all h = sym (tried-end t i) ∙ (ap (with_tried t i) (sym (rest_end a.count a.list i h)) ∙ v.rest)
+module _ (l : List Attempt) (i : ℕ) (t : Tries) (v : Tried l i t) where
+  pub tried-all : length l ≤ i → (a : Attempts) → length a.list ≡ 32 → l ≡ take (min a.count 32) a.list → t ≡ tries_of a
+  tried-all h a e f =
+      sym (tried-end t i) ∙ (ap (with_tried t i) (sym (drop_of_length-le l {i = i} h)) ∙ (v.rest ∙ (ap (with_tried no_tries 0) (f ∙ first-all 32 a.count a.list e) ∙ all_tried a)))
 
-  pub tried-next : i < a.count → i < length a.list → i < 32 → (u : Tries) → u ≡ noted_attempt t (get_or a.list i no_attempt) i → Tried a (i + 1) u
+  pub tried-next : i < length l → (u : Tries) → u ≡ noted_attempt t (get_or l i no_attempt) i → Tried l (i + 1) u
   unfolding noted_attempt
-  tried-next h k l u e =
-      let x = get_or a.list i no_attempt in
+  tried-next h u e =
+      let x = get_or l i no_attempt in
       record {
-        within = omega arith;
         few = omega (arith, v.few, ap (λ w. w.active) e, one_at_most (is_open x.state));
-        rest = ap (λ w. with_tried w (i + 1) (drop (i + 1) (take a.count a.list))) e ∙ (tried-more t i x (drop (i + 1) (take a.count a.list)) ∙ (ap (with_tried t i) (sym (rest_more a.count a.list i no_attempt h k)) ∙ v.rest));
+        rest = ap (λ w. with_tried w (i + 1) (drop (i + 1) l)) e ∙ (tried-more t i x (drop (i + 1) l) ∙ (ap (with_tried t i) (sym (rest l i no_attempt h)) ∙ v.rest));
       }
 
 -- Query records
 
-answer-more : (m : Moment) (a : Answer) (l : List ℕ) → sooner_both (sooner_by m a) (oldest_of l) ≡ sooner_both m (oldest_of (came a l))
+answer-more : (m : Option ℕ) (a : Answer) (l : List ℕ) → sooner_both (sooner_by m a) (oldest_of l) ≡ sooner_both m (oldest_of (came a l))
 unfolding oldest_of
 answer-more m answer.Pending l = refl
 answer-more m (answer.Failed t) l = sooner-one m t (oldest_of l)
@@ -200,29 +210,35 @@ asked-end : (s : Asks) (i : ℕ) → with_asked s i [] ≡ s
 unfolding with_asked some? answer_times oldest_of first_place
 asked-end s i = rw (kinds-end s.asked, kinds-end s.answered, or-end s.pending, or-end s.flying, or-end s.address, sooner-end s.oldest, place_end s.due)
 
-pub record Asked (q : Queries) (i : ℕ) (s : Asks) : Type 0 where
-  pub within : i ≤ 16
-  pub rest : with_asked s i (drop i (take q.count q.list)) ≡ asks_of q
+abbrev no_asks : Asks
+no_asks = record { asked = no_kinds; answered = no_kinds; pending = false; flying = false; address = false; oldest = None; due = None }
 
-pub asked-none : (q : Queries) → Asked q 0 (record { asked = no_kinds; answered = no_kinds; pending = false; flying = false; address = false; oldest = moment.Never; due = place.Nowhere })
+all_asked : (q : Queries) → with_asked no_asks 0 (asked q) ≡ asks_of q
 unfolding with_asked asks_of
-asked-none q = record { within = omega arith; rest = refl }
+all_asked q = refl
 
-module _ (q : Queries) (i : ℕ) (s : Asks) (v : Asked q i s) where
-  pub asked-past : q.count ≤ i → s ≡ asks_of q
-  asked-past h = sym (asked-end s i) ∙ (ap (with_asked s i) (sym (rest-none q.count q.list i h)) ∙ v.rest)
+abbrev pub Asked : List Query → ℕ → Asks → Type 0
+Asked l i s = with_asked s i (drop i l) ≡ with_asked no_asks 0 l
 
-  pub asked-all : length q.list ≤ i → s ≡ asks_of q
-  asked-all h = sym (asked-end s i) ∙ (ap (with_asked s i) (sym (rest_end q.count q.list i h)) ∙ v.rest)
+module _ (l : List Query) (i : ℕ) (s : Asks) (v : Asked l i s) where
+  pub asked-all : length l ≤ i → (q : Queries) → length q.list ≡ 16 → l ≡ take (min q.count 16) q.list → s ≡ asks_of q
+  asked-all h q e f =
+      sym (asked-end s i) ∙ (ap (with_asked s i) (sym (drop_of_length-le l {i = i} h)) ∙ (v ∙ (ap (with_asked no_asks 0) (f ∙ first-all 16 q.count q.list e) ∙ all_asked q)))
 
-  pub asked-next : i < q.count → i < length q.list → i < 16 → (u : Asks) → u ≡ noted_query s (get_or q.list i no_query) i → Asked q (i + 1) u
-  asked-next h k l u e =
-      let x = get_or q.list i no_query in
-      let t = drop (i + 1) (take q.count q.list) in
-      record {
-        within = omega arith;
-        rest = ap (λ w. with_asked w (i + 1) t) e ∙ (asked-more s i x t ∙ (ap (with_asked s i) (sym (rest_more q.count q.list i no_query h k)) ∙ v.rest));
-      }
+  pub asked-next : i < length l → (u : Asks) → u ≡ noted_query s (get_or l i no_query) i → Asked l (i + 1) u
+  asked-next h u e =
+      let x = get_or l i no_query in
+      ap (λ w. with_asked w (i + 1) (drop (i + 1) l)) e ∙ (asked-more s i x (drop (i + 1) l) ∙ (ap (with_asked s i) (sym (rest l i no_query h)) ∙ v))
+
+-- A test of the members of a list, one after the other
+module _ {A : Type 0} (d : A) (test : A → Bool) (l : List A) (i : ℕ) (b t : Bool) (p : b || some? test (drop i l) ≡ t) where
+  pub some-next : i < length l → (u : Bool) → u ≡ b || test (get_or l i d) → u || some? test (drop (i + 1) l) ≡ t
+  unfolding some?
+  some-next h u e = ap (λ w. w || some? test (drop (i + 1) l)) e ∙ (or-more b (test (get_or l i d)) (some? test (drop (i + 1) l)) ∙ (ap (λ w. b || some? test w) (sym (rest l i d h)) ∙ p))
+
+  pub some-all : length l ≤ i → b ≡ t
+  unfolding some?
+  some-all h = sym (or-end b) ∙ (ap (λ w. b || some? test w) (sym (drop_of_length-le l {i = i} h)) ∙ p)
 
 -- A test of the members, one after the other
 module _ {A : Type 0} (d : A) (test : A → Bool) (n : ℕ) (l : List A) (i : ℕ) (b t : Bool) (p : b || some? test (drop i (take n l)) ≡ t) where

@@ -1,5 +1,5 @@
 -- How the code looks at the records, one after the other: what is noted so far, with one record more. What comes out is in Surveys.
-use Rattle.std.specs.Prelude.{ℕ, ◌+◌, Bool, true, false, not, cond, ◌||◌}
+use Rattle.std.specs.Prelude.{Option, Some, None, ℕ, ◌+◌, Bool, true, false, not, cond, ◌||◌}
 use Rattle.records.specs.Queries.{answered}
 use Rattle.records.specs.declared.queries.Kind.{Kind}
 use Rattle.records.specs.declared.queries.Kind.TheVariants.{Https, Aaaa, A}
@@ -8,29 +8,26 @@ use Rattle.records.specs.declared.queries.Answer.TheVariants as answer
 use Rattle.records.specs.declared.queries.Query.{Query}
 use Rattle.state.specs.State.{is_open, has_won}
 use Rattle.state.specs.declared.attempts.Attempt.{Attempt}
-use Rattle.starting.specs.declared.surveys.Moment.{Moment}
-use Rattle.starting.specs.declared.surveys.Place.{Place}
-use Rattle.starting.specs.declared.surveys.Place.TheVariants as place
 use Rattle.starting.specs.declared.surveys.Kinds.{Kinds}
 use Rattle.starting.specs.declared.surveys.Tries.{Tries}
 use Rattle.starting.specs.declared.surveys.Asks.{Asks}
 use Rattle.starting.specs.Surveys.{later_of, sooner_of, has_address, is_flying, is_due}
 
 -- the first of two places that is one
-abbrev pub or_place : Place → Place → Place
-or_place place.Nowhere q = q
-or_place (place.At j) q = place.At j
+abbrev pub or_place : Option ℕ → Option ℕ → Option ℕ
+or_place None q = q
+or_place (Some j) q = Some j
 
-abbrev pub place_if : Bool → ℕ → Place
-place_if on i = cond on (place.At i) place.Nowhere
+abbrev pub place_if : Bool → ℕ → Option ℕ
+place_if on i = cond on (Some i) None
 
 abbrev pub one_if : Bool → ℕ
 one_if on = cond on 1 0
 
-abbrev pub later_if : Moment → Bool → ℕ → Moment
+abbrev pub later_if : Option ℕ → Bool → ℕ → Option ℕ
 later_if m on t = cond on (later_of t m) m
 
-abbrev pub sooner_by : Moment → Answer → Moment
+abbrev pub sooner_by : Option ℕ → Answer → Option ℕ
 sooner_by m answer.Pending = m
 sooner_by m (answer.Failed t) = sooner_of t m
 sooner_by m (answer.Held t n) = sooner_of t m

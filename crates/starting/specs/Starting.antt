@@ -1,5 +1,5 @@
 -- Starting (document 01, part 5; `move_on_*`): gate and timers, and whether endpoints may be attempted at all.
-use Rattle.std.specs.Prelude.{ℕ, ◌-◌, Bool, true, false, cond, ◌&&◌, ◌||◌, nat_lt, nat_le, length}
+use Rattle.std.specs.Prelude.{Option, Some, None, ℕ, ◌-◌, Bool, true, false, cond, ◌&&◌, ◌||◌, nat_lt, nat_le, length}
 use Rattle.pacing.specs.Pacing.{delay_of}
 use Rattle.records.specs.Lists.{some?}
 use Rattle.records.specs.Rules.{prefers_six, with_https, is_named}
@@ -9,8 +9,6 @@ use Rattle.records.specs.declared.rules.Mode.{Mode}
 use Rattle.records.specs.declared.rules.Mode.TheVariants as mode
 use Rattle.state.specs.State.{tried}
 use Rattle.state.specs.declared.attempts.Attempts.{Attempts}
-use Rattle.starting.specs.declared.surveys.Moment.{Moment}
-use Rattle.starting.specs.declared.surveys.Moment.TheVariants as moment
 use Rattle.starting.specs.declared.surveys.Tries.{Tries}
 use Rattle.starting.specs.declared.surveys.Asks.{Asks}
 use Rattle.starting.specs.declared.surveys.Hinted.{Hinted}
@@ -23,9 +21,9 @@ unfoldable pub elapsed : (now then : ℕ) → ℕ
 elapsed now then = now - then
 
 -- what is left of a delay since a moment
-abbrev pub left_of : ℕ → Moment → ℕ → ℕ
-left_of delay moment.Never now = 0
-left_of delay (moment.At t) now = delay - elapsed now t
+abbrev pub left_of : ℕ → Option ℕ → ℕ → ℕ
+left_of delay None now = 0
+left_of delay (Some t) now = delay - elapsed now t
 
 -- one attempt delay, for the gate and for its timer (part 2)
 unfoldable pub attempt_delay : Timing → ℕ → ℕ
@@ -44,9 +42,9 @@ unfoldable pub resolution_left : Timing → Asks → ℕ → ℕ
 resolution_left t asks now = cond asks.pending (left_of t.resolution asks.oldest now) 0
 
 -- "the resolution delay is met at equality": by the oldest answer, so by some
-abbrev pub resolution_met : ℕ → Moment → ℕ → Bool
-resolution_met delay moment.Never now = false
-resolution_met delay (moment.At t) now = nat_le delay (elapsed now t)
+abbrev pub resolution_met : ℕ → Option ℕ → ℕ → Bool
+resolution_met delay None now = false
+resolution_met delay (Some t) now = nat_le delay (elapsed now t)
 
 -- Starting
 

@@ -1,5 +1,5 @@
 -- What the decisions need of the attempts, the query records and the services.
-use Rattle.std.specs.Prelude.{ℕ, ◌+◌, min, max, Bool, true, false, not, cond, ◌&&◌, List, [], ◌∷◌, nat_eq, nat_lt, length}
+use Rattle.std.specs.Prelude.{Option, Some, None, ℕ, ◌+◌, min, max, Bool, true, false, not, cond, ◌&&◌, List, [], ◌∷◌, nat_eq, nat_lt, length}
 use Rattle.records.specs.Lists.{some?}
 use Rattle.records.specs.Numbers.{kind_number}
 use Rattle.records.specs.Queries.{answered}
@@ -16,35 +16,31 @@ use Rattle.records.specs.declared.services.Services.{Services}
 use Rattle.state.specs.State.{asked, tried, is_open, has_won}
 use Rattle.state.specs.declared.attempts.Attempt.{Attempt}
 use Rattle.state.specs.declared.attempts.Attempts.{Attempts}
-use Rattle.starting.specs.declared.surveys.Moment.{Moment}
-use Rattle.starting.specs.declared.surveys.Moment.TheVariants as moment
-use Rattle.starting.specs.declared.surveys.Place.{Place}
-use Rattle.starting.specs.declared.surveys.Place.TheVariants as place
 use Rattle.starting.specs.declared.surveys.Kinds.{Kinds}
 use Rattle.starting.specs.declared.surveys.Tries.{Tries}
 use Rattle.starting.specs.declared.surveys.Asks.{Asks}
 use Rattle.starting.specs.declared.surveys.Hinted.{Hinted}
 
 -- the place of the first member that passes, counted from i
-unfoldable pub first_place : {A : Type 0} → (A → Bool) → ℕ → List A → Place
-first_place test i [] = place.Nowhere
-first_place test i (x ∷ l) = cond (test x) (place.At i) (first_place test (i + 1) l)
+unfoldable pub first_place : {A : Type 0} → (A → Bool) → ℕ → List A → Option ℕ
+first_place test i [] = None
+first_place test i (x ∷ l) = cond (test x) (Some i) (first_place test (i + 1) l)
 
 -- the latest and the oldest of some moments
-abbrev pub later_of : ℕ → Moment → Moment
-later_of t moment.Never = moment.At t
-later_of t (moment.At u) = moment.At (max t u)
+abbrev pub later_of : ℕ → Option ℕ → Option ℕ
+later_of t None = Some t
+later_of t (Some u) = Some (max t u)
 
-abbrev pub sooner_of : ℕ → Moment → Moment
-sooner_of t moment.Never = moment.At t
-sooner_of t (moment.At u) = moment.At (min t u)
+abbrev pub sooner_of : ℕ → Option ℕ → Option ℕ
+sooner_of t None = Some t
+sooner_of t (Some u) = Some (min t u)
 
-unfoldable pub latest_of : List ℕ → Moment
-latest_of [] = moment.Never
+unfoldable pub latest_of : List ℕ → Option ℕ
+latest_of [] = None
 latest_of (t ∷ l) = later_of t (latest_of l)
 
-unfoldable pub oldest_of : List ℕ → Moment
-oldest_of [] = moment.Never
+unfoldable pub oldest_of : List ℕ → Option ℕ
+oldest_of [] = None
 oldest_of (t ∷ l) = sooner_of t (oldest_of l)
 
 -- Attempts

@@ -2,36 +2,32 @@
 ghost use Rattle.std.specs.Prelude.{◌≡◌};
 ghost use Rattle.starting.specs.Starting.{elapsed, left_of, attempt_delay, attempt_left, resolution_left, resolution_met, some_address, preferred_settled, move_on_without_timeout, move_on_with_timeout, unresolved, may_start};
 
-use super::surveys::{Asks, Hinted, Moment, Tries, either};
+use super::surveys::{Asks, Hinted, Tries, either};
 use records::rules::{Mode, Rules, Timing, is_named, prefers_six, with_https};
 
 // "Elapsed is 0 if the clock went back".
+#[tactic(auto, unfolding(crate::specs::Starting::elapsed))]
 pub fn elapsed(now: u64, then: u64) -> u64
     ensures { result ≡ elapsed now then }
 {
-    if now < then {
-        return 0;
-    }
-    now - then
+    now.saturating_sub(then)
 }
 
 // What is left of a delay since a moment; 0 where it is over or there is no such moment.
-fn left_of(delay: u64, since: Moment, now: u64) -> u64
+fn left_of(delay: u64, since: Option<u64>, now: u64) -> u64
     ensures { result ≡ left_of delay since now }
 {
     match since {
-        Moment::Never => 0,
-        Moment::At(t) => {
+        None => 0,
+        Some(t) => {
             let e = elapsed(now, t);
-            if delay <= e {
-                return 0;
-            }
-            delay - e
+            delay.saturating_sub(e)
         }
     }
 }
 
 // The wait before another attempt with so many in progress: the one for gate and timer.
+#[tactic(auto, unfolding(crate::specs::Starting::attempt_delay))]
 pub fn attempt_delay(timing: Timing, active: u64) -> u64
     ensures { result ≡ attempt_delay timing active }
 {
@@ -39,6 +35,7 @@ pub fn attempt_delay(timing: Timing, active: u64) -> u64
 }
 
 // What is left of it since the latest start in progress. The gate is shut while it isn't 0, and that is the attempt timer.
+#[tactic(auto, unfolding(crate::specs::Starting::attempt_left))]
 pub fn attempt_left(timing: Timing, tries: Tries, now: u64) -> u64
     ensures { result ≡ attempt_left timing tries now }
 {
@@ -48,6 +45,7 @@ pub fn attempt_left(timing: Timing, tries: Tries, now: u64) -> u64
 }
 
 // What is left of the resolution delay since the oldest answer, while a record is unanswered.
+#[tactic(auto, unfolding(crate::specs::Starting::resolution_left))]
 pub fn resolution_left(timing: Timing, asks: Asks, now: u64) -> u64
     ensures { result ≡ resolution_left timing asks now }
 {
@@ -60,16 +58,17 @@ pub fn resolution_left(timing: Timing, asks: Asks, now: u64) -> u64
 
 // "the resolution delay is met at equality", by some answer
 #[tactic(auto, unfolding(crate::specs::Starting::elapsed))]
-fn is_resolution_met(timing: Timing, oldest: Moment, now: u64) -> bool
+fn is_resolution_met(timing: Timing, oldest: Option<u64>, now: u64) -> bool
     ensures { result ≡ resolution_met timing.resolution oldest now }
 {
     match oldest {
-        Moment::Never => false,
-        Moment::At(t) => timing.resolution <= elapsed(now, t),
+        None => false,
+        Some(t) => timing.resolution <= elapsed(now, t),
     }
 }
 
 // An answer with an address, or a hint of any family.
+#[tactic(auto, unfolding(crate::specs::Starting::some_address))]
 fn some_address(asks: Asks, hinted: Hinted) -> bool
     ensures { result ≡ some_address asks hinted }
 {
@@ -77,6 +76,7 @@ fn some_address(asks: Asks, hinted: Hinted) -> bool
 }
 
 // The preferred type is answered or hinted; `wait_for_preferred_address` off drops this test only.
+#[tactic(auto, unfolding(crate::specs::Starting::preferred_settled))]
 fn is_preferred_settled(wait: bool, six: bool, asks: Asks, hinted: Hinted) -> bool
     ensures { result ≡ preferred_settled wait six asks hinted }
 {
@@ -90,6 +90,7 @@ fn is_preferred_settled(wait: bool, six: bool, asks: Asks, hinted: Hinted) -> bo
 }
 
 // `move_on_without_timeout`, with a named origin
+#[tactic(auto, unfolding(crate::specs::Starting::move_on_without_timeout))]
 fn move_on_without_timeout(rules: Rules, timing: Timing, asks: Asks, hinted: Hinted) -> bool
     ensures { result ≡ move_on_without_timeout rules timing asks hinted }
 {
@@ -108,6 +109,7 @@ fn move_on_without_timeout(rules: Rules, timing: Timing, asks: Asks, hinted: Hin
 }
 
 // `move_on_with_timeout`
+#[tactic(auto, unfolding(crate::specs::Starting::move_on_with_timeout))]
 fn move_on_with_timeout(timing: Timing, asks: Asks, hinted: Hinted, now: u64) -> bool
     ensures { result ≡ move_on_with_timeout timing asks hinted now }
 {
@@ -122,13 +124,13 @@ fn is_unresolved(m: Mode) -> bool
     ensures { result ≡ unresolved m }
 {
     match m {
-        Mode::Ip => false,
         Mode::Name => true,
-        Mode::NameWithHttpsRr => false,
+        Mode::Ip | Mode::NameWithHttpsRr => false,
     }
 }
 
 // Whether endpoints may be attempted at all.
+#[tactic(auto, unfolding(crate::specs::Starting::may_start))]
 pub fn may_start(rules: Rules, timing: Timing, asks: Asks, hinted: Hinted, now: u64) -> bool
     ensures { result ≡ may_start rules timing asks hinted now }
 {

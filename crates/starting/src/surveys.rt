@@ -1,25 +1,11 @@
 // One look at the records of each kind: what the decisions need of them.
-ghost use Rattle.std.specs.Prelude.{◌+◌, ◌<◌, ◌||◌, ◌≡◌};
+ghost use Rattle.std.specs.Prelude.{◌+◌, ◌<◌, ◌||◌, ◌≡◌, Some};
 ghost use Rattle.starting.specs.Surveys.{sooner_of, tries_of, has_address, is_flying, is_due, asks_of, hints_of};
 ghost use Rattle.starting.specs.Noting.{or_place, place_if, one_if, later_if, sooner_by, noted_attempt, no_kinds, with_kind, noted_query};
 
 use records::queries::{Answer, Kind, Queries, Query, Refresh, is_answered};
 use records::services::Services;
 use state::attempts::{Attempt, Attempts, has_won, is_open};
-
-// A moment, where there is one.
-#[derive(Clone, Copy)]
-pub enum Moment {
-    Never,
-    At(u64),
-}
-
-// A place, where there is one.
-#[derive(Clone, Copy)]
-pub enum Place {
-    Nowhere,
-    At(usize),
-}
 
 // For each type of record, whether there is one.
 #[derive(Clone, Copy)]
@@ -34,8 +20,8 @@ pub struct Kinds {
 pub struct Tries {
     pub won: bool,
     pub active: u64,
-    pub latest: Moment,
-    pub first: Place,
+    pub latest: Option<u64>,
+    pub first: Option<usize>,
 }
 
 // Of the query records: which types were asked for and which of those are answered, whether a record or a refresh is unanswered, whether
@@ -47,8 +33,8 @@ pub struct Asks {
     pub pending: bool,
     pub flying: bool,
     pub address: bool,
-    pub oldest: Moment,
-    pub due: Place,
+    pub oldest: Option<u64>,
+    pub due: Option<usize>,
 }
 
 // Of the services: whether one has a hint of the family.
@@ -61,65 +47,43 @@ pub struct Hinted {
 pub fn either(a: bool, b: bool) -> bool
     ensures { result ≡ a || b }
 {
-    if a {
-        return true;
-    }
-    b
+    a || b
 }
 
 // The first of two places that is one.
-fn or_else(p: Place, on: bool, i: usize) -> Place
+fn or_else(p: Option<usize>, on: bool, i: usize) -> Option<usize>
     ensures { result ≡ or_place p (place_if on i) }
 {
-    match p {
-        Place::At(j) => Place::At(j),
-        Place::Nowhere => {
-            if on {
-                return Place::At(i);
-            }
-            Place::Nowhere
-        }
-    }
+    p.or(on.then_some(i))
 }
 
-fn later(m: Moment, on: bool, t: u64) -> Moment
+fn later(m: Option<u64>, on: bool, t: u64) -> Option<u64>
     ensures { result ≡ later_if m on t }
 {
     if !on {
         return m;
     }
     match m {
-        Moment::Never => Moment::At(t),
-        Moment::At(u) => {
-            if u < t {
-                return Moment::At(t);
-            }
-            Moment::At(u)
-        }
+        None => Some(t),
+        Some(u) => Some(if u < t { t } else { u }),
     }
 }
 
-fn sooner(m: Moment, a: Answer) -> Moment
+fn sooner(m: Option<u64>, a: Answer) -> Option<u64>
     ensures { result ≡ sooner_by m a }
 {
     match a {
         Answer::Pending => m,
-        Answer::Failed(t) => sooner_at(m, t),
-        Answer::Held(t, _) => sooner_at(m, t),
+        Answer::Failed(t) | Answer::Held(t, _) => Some(sooner_at(m, t)),
     }
 }
 
-fn sooner_at(m: Moment, t: u64) -> Moment
-    ensures { result ≡ sooner_of t m }
+fn sooner_at(m: Option<u64>, t: u64) -> u64
+    ensures { Some result ≡ sooner_of t m }
 {
     match m {
-        Moment::Never => Moment::At(t),
-        Moment::At(u) => {
-            if t < u {
-                return Moment::At(t);
-            }
-            Moment::At(u)
-        }
+        None => t,
+        Some(u) => u.min(t),
     }
 }
 
@@ -131,6 +95,7 @@ fn one_more(n: u64, on: bool) -> u64
     if on { n + 1 } else { n }
 }
 
+#[tactic(auto, unfolding(crate::specs::Noting::noted_attempt))]
 fn noted_attempt(t: Tries, a: Attempt, i: usize) -> Tries
     requires { t.active < 32 }
     ensures { result ≡ noted_attempt t a i }
@@ -150,21 +115,16 @@ fn noted_attempt(t: Tries, a: Attempt, i: usize) -> Tries
 pub fn tries_of(attempts: Attempts) -> Tries
     ensures { result ≡ tries_of attempts }
 {
-    let n = attempts.count;
+    let n = attempts.count.min(32);
+    let tried = &attempts.list[..n];
     let mut t = Tries {
         won: false,
         active: 0,
-        latest: Moment::Never,
-        first: Place::Nowhere,
+        latest: None,
+        first: None,
     };
-    let mut i: usize = 0;
-    while i < 32 {
-        if n <= i {
-            return t;
-        }
-        let a = attempts.list[i];
+    for (i, &a) in tried.iter().enumerate() {
         t = noted_attempt(t, a, i);
-        i += 1;
     }
     t
 }
@@ -206,9 +166,8 @@ fn has_address(a: Answer) -> bool
     ensures { result ≡ has_address a }
 {
     match a {
-        Answer::Pending => false,
-        Answer::Failed(_) => false,
         Answer::Held(_, n) => 0 < n,
+        Answer::Pending | Answer::Failed(_) => false,
     }
 }
 
@@ -216,9 +175,8 @@ fn is_flying(r: Refresh) -> bool
     ensures { result ≡ is_flying r }
 {
     match r {
-        Refresh::Idle => false,
         Refresh::InFlight(_) => true,
-        Refresh::Done => false,
+        Refresh::Idle | Refresh::Done => false,
     }
 }
 
@@ -228,11 +186,11 @@ fn is_due(stale: bool, r: Refresh) -> bool
 {
     match r {
         Refresh::Idle => stale,
-        Refresh::InFlight(_) => false,
-        Refresh::Done => false,
+        Refresh::InFlight(_) | Refresh::Done => false,
     }
 }
 
+#[tactic(auto, unfolding(crate::specs::Noting::noted_query))]
 fn noted_query(s: Asks, q: Query, i: usize) -> Asks
     ensures { result ≡ noted_query s q i }
 {
@@ -258,24 +216,19 @@ fn noted_query(s: Asks, q: Query, i: usize) -> Asks
 pub fn asks_of(queries: Queries) -> Asks
     ensures { result ≡ asks_of queries }
 {
-    let n = queries.count;
+    let n = queries.count.min(16);
+    let asked = &queries.list[..n];
     let mut s = Asks {
         asked: no_kinds(),
         answered: no_kinds(),
         pending: false,
         flying: false,
         address: false,
-        oldest: Moment::Never,
-        due: Place::Nowhere,
+        oldest: None,
+        due: None,
     };
-    let mut i: usize = 0;
-    while i < 16 {
-        if n <= i {
-            return s;
-        }
-        let q = queries.list[i];
+    for (i, &q) in asked.iter().enumerate() {
         s = noted_query(s, q, i);
-        i += 1;
     }
     s
 }
@@ -283,19 +236,13 @@ pub fn asks_of(queries: Queries) -> Asks
 pub fn hints_of(services: Services) -> Hinted
     ensures { result ≡ hints_of services }
 {
-    let n = services.count;
+    let n = services.count.min(4);
+    let offered = &services.list[..n];
     let mut six = false;
     let mut four = false;
-    let mut i: usize = 0;
-    while i < 4 {
-        if n <= i {
-            return Hinted { six, four };
-        }
-        let a = services.list[i].n6;
-        let b = services.list[i].n4;
-        six = either(six, 0 < a);
-        four = either(four, 0 < b);
-        i += 1;
+    for s in offered {
+        six = either(six, 0 < s.n6);
+        four = either(four, 0 < s.n4);
     }
     Hinted { six, four }
 }

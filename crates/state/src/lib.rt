@@ -14,6 +14,7 @@ use records::services::{Services, no_services};
 pub mod attempts;
 pub mod changes;
 pub mod https;
+pub mod members;
 
 #[derive(Clone, Copy)]
 pub struct Machine {

@@ -8,7 +8,7 @@ use lib.Dec.{eqb as nat_eq}
 use lib.ListN.{length, get_or}
 use borrow.Author.Tests.{lt-ltb, le-ltb}
 use Rattle.numbers.specs.Names.{undotted}
-use Rattle.records.specs.Names.{same_bytes, name_bytes, name_at, name_bytes_at, blank_name, connect_name, host_at, ech_bytes, ech_at, ech_bytes_at, no_ech, blank_ech}
+use Rattle.records.specs.Names.{same_bytes, name_bytes, name_bytes_at, blank_name, connect_name, host_at, ech_bytes, ech_at, ech_bytes_at, no_ech, blank_ech}
 use Rattle.records.specs.Classes.{class_of}
 use Rattle.records.specs.Endpoints.{same_hosts, same_echs, same_endpoint}
 use Rattle.records.specs.declared.names.Names.{Names}
@@ -20,7 +20,7 @@ use Rattle.records.specs.declared.endpoints.Target.TheVariants.{V4, V6, Named}
 use Rattle.records.specs.declared.endpoints.Endpoint.{Endpoint}
 use Rattle.records.proofs.Bytes.{same_refl, other_length}
 use Rattle.records.proofs.SameName.{Equivalence, same_bytes_lem, by_bytes}
-use Rattle.records.proofs.Classes.{Table, by-class, class-is, Classed, Held, held_bytes, name-outside, name-inside}
+use Rattle.records.proofs.Classes.{Table, by-class, class-is, Held, held_bytes, name-outside, name-inside}
 use Rattle.records.proofs.Alike.{head_first}
 use Rattle.upcoming.specs.Alike.{same_host_at, same_ech_at, same_hosts_of, same_echs_of, host_class, ech_class, alike_hosts, alike_echs, alike_endpoints}
 
@@ -49,11 +49,6 @@ pub host-table : (names : Names) → Table 14 (same_host_at names)
 unfolding same_host_at
 host-table names = record { alike = by_bytes same_bytes same_bytes_lem (host_at names); outside = λ p h. same_of (host_at names) 14 p (sym (host-outside names p h)) }
 
--- the origin's host is that outside the table
-pub origin-out : (names : Names) (p : ℕ) → same_host_at names 14 p ≡ same_host_at names 0 p
-unfolding same_host_at
-origin-out names p = ap (λ z. same_bytes z (host_at names p)) (origin-outside names)
-
 -- an empty name falls back on the origin's
 fallen-back : (origin own : List ℕ) → length own ≡ 0 → connect_name origin [] ≡ connect_name origin own
 fallen-back origin [] e = refl
@@ -67,10 +62,10 @@ pub empty-out : (names : Names) (p : ℕ) → p < 14 → length (name_bytes (get
 unfolding same_host_at
 empty-out names p h e = same_of (host_at names) 14 p (host-empty names p h e)
 
-pub host-in : (names : Names) (p q : ℕ) → p < 14 → q < 14
-    → same_bytes (connect_name (name_bytes (get_or names.list 0 blank_name)) (name_bytes (get_or names.list q blank_name))) (connect_name (name_bytes (get_or names.list 0 blank_name)) (name_bytes (get_or names.list p blank_name))) ≡ same_host_at names q p
-unfolding same_host_at host_at name_at
-host-in names p q h k = rw (lt-ltb _ _ h, lt-ltb _ _ k)
+-- two empty names have the origin's host, both
+pub both_empty : (names : Names) (p q : ℕ) → length (name_bytes_at names p) ≡ 0 → length (name_bytes_at names q) ≡ 0 → same_host_at names p q ≡ true
+unfolding same_host_at host_at
+both_empty names p q h k = same_of (host_at names) p q (sym (fallen-back _ _ h) ∙ fallen-back _ _ k)
 
 -- ECH bytes: outside the table there are none
 ech-outside : (echs : Echs) (p : ℕ) → 40 ≤ p → ech_bytes_at echs p ≡ []
@@ -84,21 +79,6 @@ ech-inside echs p h = rw (lt-ltb _ _ h)
 pub echs-held : (echs : Echs) → Held 40 same_bytes (same_ech_at echs) (λ p. ech_bytes (get_or echs.list p blank_ech))
 unfolding same_ech_at
 echs-held echs = held_bytes 40 same_bytes (ech_bytes_at echs) (λ p. ech_bytes (get_or echs.list p blank_ech)) same_bytes_lem other_length (ech-outside echs) (ech-inside echs)
-
--- the origin stands first, in the class of what lies outside
-pub origin-classed : (names : Names) → Classed 14 (same_host_at names) (14 ∷ 14 ∷ 14 ∷ 14 ∷ 14 ∷ 14 ∷ 14 ∷ 14 ∷ 14 ∷ 14 ∷ 14 ∷ 14 ∷ 14 ∷ 14 ∷ []) 1 0
-unfolding class_of
-origin-classed names =
-    record {
-      within = omega arith;
-      behind = omega arith;
-      long = refl;
-      done = λ k h. let e : k ≡ 0 = omega arith in first k e;
-      none = λ k h. absurd (omega arith);
-    }
-  where
-    first : (k : ℕ) → k ≡ 0 → get_or (14 ∷ 14 ∷ 14 ∷ 14 ∷ 14 ∷ 14 ∷ 14 ∷ 14 ∷ 14 ∷ 14 ∷ 14 ∷ 14 ∷ 14 ∷ 14 ∷ []) k 0 ≡ class_of 14 (same_host_at names) k
-    first k e = rw (e, origin-out names 0, (host-places names).itself 0)
 
 -- what the classes of a table say is what the bytes say, place by place
 host-class : (names : Names) (p : ℕ) → host_class (same_hosts_of names) p ≡ class_of 14 (same_host_at names) p

@@ -1,17 +1,19 @@
 -- Looking for the first endpoint that wasn't attempted, one after the other: among the retries, and tier by tier.
+use Rattle.std.specs.Prelude.{Some, None, is_some}
 use Prim.Native.Nat.{ℕ, zero, suc, ◌+◌, ◌≤◌, ◌<◌}
 use mathlib.Core.Path.{◌≡◌, refl, sym, ap, ◌∙◌}
 use mathlib.Core.Bool.{Bool, true, false, not, cond}
 use mathlib.Core.List.{List, [], ◌∷◌, ◌++◌, map}
 use mathlib.Core.Option.{Option, some}
 use native.Mathlib.Omega.{arith}
+use native.Mathlib.Numerals.{add-one}
 use native.Mathlib.Decide.{dec_lt}
 use lib.Dec.{ltb as nat_lt}
-use lib.ListN.{length, take, drop, get_or, get_or-append}
-use lib.Seq.{take_all, get_or-append-add}
+use lib.ListN.{length, drop, get_or, get_or-append, drop_of_length-le}
+use lib.Seq.{get_or-append-add, drop-cons}
 use Rattle.deal.specs.Interleaving.{upto}
 use Rattle.deal.proofs.Laws.{length-upto}
-use Rattle.records.specs.Lists.{each, first_of}
+use Rattle.records.specs.Lists.{some?, each, first_of}
 use Rattle.records.specs.References.{endpoint_of}
 use Rattle.records.specs.declared.rules.Rules.{Rules}
 use Rattle.records.specs.declared.rules.Alts.{Alts}
@@ -20,7 +22,6 @@ use Rattle.records.specs.declared.queries.Answers.{Answers}
 use Rattle.records.specs.declared.services.Services.{Services}
 use Rattle.records.specs.declared.references.Item.{Item}
 use Rattle.records.specs.declared.endpoints.Endpoint.{Endpoint}
-use Rattle.records.proofs.Walk.{rest_more, rest-none, rest_end}
 use Rattle.listing.specs.Held.{Same}
 use Rattle.listing.specs.Listing.{tier_count, tier_at, items_to_attempt, endpoints_to_attempt}
 use Rattle.listing.specs.Room.{tiered, tier_members}
@@ -32,41 +33,40 @@ use Rattle.records.specs.Services.{any_ech}
 use Rattle.state.specs.State.{retries_of}
 use Rattle.state.specs.declared.attempts.Attempts.{Attempts}
 use Rattle.state.specs.declared.attempts.Retries.{Retries}
-use Rattle.upcoming.specs.declared.next.Next.{Next}
-use Rattle.upcoming.specs.declared.next.Next.TheVariants as next
-use Rattle.upcoming.specs.Next.{Alike, attempted, next_of, retried_at, retry_endpoints, next_retry, next_endpoint, or_next, is_new, first_next, if_new, retry_new, item_new}
-
-or-take : (w v : Next) → is_new w ≡ true → w ≡ or_next w v
-or-take next.Nothing v h = cc
-or-take (next.New e) v h = refl
-
-or-skip : (w v : Next) → is_new w ≡ false → v ≡ or_next w v
-or-skip next.Nothing v h = refl
-or-skip (next.New e) v h = cc
+use Rattle.upcoming.specs.Next.{Next, Alike, attempted, next_of, retried_at, retry_endpoints, next_retry, next_endpoint, or_next, first_next, if_new, retry_new, item_new}
 
 -- one turn: it is the next, or the rest has it; none is left
-module _ {A : Type 0} (d : A) (f : A → Next) (n : ℕ) (l : List A) (i : ℕ) (t : Next) (p : first_next f (drop i (take n l)) ≡ t) where
-  found : i < n → i < length l → or_next (f (get_or l i d)) (first_next f (drop (i + 1) (take n l))) ≡ t
+module _ {A : Type 0} (f : A → Next) (d : A) (l : List A) (i : ℕ) where
+  step : i < length l → first_next f (drop i l) ≡ or_next (f (get_or l i d)) (first_next f (drop (i + 1) l))
   unfolding first_next
-  found h k = rw (rest_more n l i d h k) at p
+  step h = rw (drop-cons l i d, first_next, add-one)
 
-  module _ (h : i < n) (k : i < length l) (w : Next) (e : w ≡ f (get_or l i d)) where
-    pub next_here : is_new w ≡ true → w ≡ t
-    next_here g = or-take w (first_next f (drop (i + 1) (take n l))) g ∙ (ap (λ x. or_next x (first_next f (drop (i + 1) (take n l)))) e ∙ found h k)
+  pub next_here : (w : Next) → i < length l → w ≡ f (get_or l i d) → is_some w ≡ true → first_next f (drop i l) ≡ w
+  next_here (Some e) h p g = step h ∙ ap (λ x. or_next x (first_next f (drop (i + 1) l))) (sym p)
+  next_here None h p g = cc
 
-    pub next_more : is_new w ≡ false → first_next f (drop (i + 1) (take n l)) ≡ t
-    next_more g = or-skip w (first_next f (drop (i + 1) (take n l))) g ∙ (ap (λ x. or_next x (first_next f (drop (i + 1) (take n l)))) e ∙ found h k)
+  pub next_more : (w : Next) → i < length l → w ≡ f (get_or l i d) → is_some w ≡ false → first_next f (drop i l) ≡ first_next f (drop (i + 1) l)
+  next_more None h p g = step h ∙ ap (λ x. or_next x (first_next f (drop (i + 1) l))) (sym p)
+  next_more (Some e) h p g = cc
 
-  pub next_past : n ≤ i → next.Nothing ≡ t
-  unfolding first_next
-  next_past h = rw (rest-none n l i h) at p
+pub next_past : {A : Type 0} (f : A → Next) (l : List A) (i : ℕ) → length l ≤ i → first_next f (drop i l) ≡ None
+unfolding first_next
+next_past f l i h = rw (drop_of_length-le l {i = i} h)
 
-  pub next-all : length l ≤ i → next.Nothing ≡ t
-  unfolding first_next
-  next-all h = rw (rest_end n l i h) at p
+pub some_here : {A : Type 0} (test : A → Bool) (d : A) (l : List A) (i : ℕ) → i < length l → test (get_or l i d) ≡ true → some? test (drop i l) ≡ true
+unfolding some?
+some_here test d l i h e = rw (drop-cons l i d, some?, e)
+
+pub some_more : {A : Type 0} (test : A → Bool) (d : A) (l : List A) (i : ℕ) → i < length l → test (get_or l i d) ≡ false → some? test (drop i l) ≡ some? test (drop (i + 1) l)
+unfolding some?
+some_more test d l i h e = rw (drop-cons l i d, some?, e, add-one)
+
+pub some_past : {A : Type 0} (test : A → Bool) (l : List A) (i : ℕ) → length l ≤ i → some? test (drop i l) ≡ false
+unfolding some?
+some_past test l i h = rw (drop_of_length-le l {i = i} h)
 
 -- the first that wasn't attempted is the first that is new
-new-step : (b : Bool) (e : Endpoint) (o : Option Endpoint) → next_of (cond (not b) (some e) o) ≡ or_next (cond b next.Nothing (next.New e)) (next_of o)
+new-step : (b : Bool) (e : Endpoint) (o : Option Endpoint) → next_of (cond (not b) (some e) o) ≡ or_next (cond b None (Some e)) (next_of o)
 new-step true e o = refl
 new-step false e o = refl
 
@@ -75,8 +75,8 @@ unfolding first_of retry_endpoints first_next retry_new if_new
 retries-first alike a [] = refl
 retries-first alike a (p ∷ l) = go (nat_lt p 32) (retries-first alike a l)
   where
-    go : (b : Bool) → next_of (first_of (λ e. not (attempted alike a e)) (retry_endpoints a l)) ≡ first_next (retry_new alike a) l → next_of (first_of (λ e. not (attempted alike a e)) (cond b (retried_at a p ∷ retry_endpoints a l) (retry_endpoints a l))) ≡ or_next (cond b (cond (attempted alike a (retried_at a p)) next.Nothing (next.New (retried_at a p))) next.Nothing) (first_next (retry_new alike a) l)
-    go true e = new-step (attempted alike a (retried_at a p)) (retried_at a p) (first_of (λ x. not (attempted alike a x)) (retry_endpoints a l)) ∙ ap (or_next (cond (attempted alike a (retried_at a p)) next.Nothing (next.New (retried_at a p)))) e
+    go : (b : Bool) → next_of (first_of (λ e. not (attempted alike a e)) (retry_endpoints a l)) ≡ first_next (retry_new alike a) l → next_of (first_of (λ e. not (attempted alike a e)) (cond b (retried_at a p ∷ retry_endpoints a l) (retry_endpoints a l))) ≡ or_next (cond b (cond (attempted alike a (retried_at a p)) None (Some (retried_at a p))) None) (first_next (retry_new alike a) l)
+    go true e = new-step (attempted alike a (retried_at a p)) (retried_at a p) (first_of (λ x. not (attempted alike a x)) (retry_endpoints a l)) ∙ ap (or_next (cond (attempted alike a (retried_at a p)) None (Some (retried_at a p)))) e
     go false e = e
 
 pub retry-first : (alike : Alike) (a : Attempts) (r : Retries) → first_next (retry_new alike a) (retries_of r) ≡ next_retry alike a r
@@ -85,8 +85,8 @@ retry-first alike a r = sym (retries-first alike a (retries_of r))
 
 -- of two lists, and of a list made of lists
 or-both : (u v w : Next) → or_next (or_next u v) w ≡ or_next u (or_next v w)
-or-both next.Nothing v w = refl
-or-both (next.New e) v w = refl
+or-both None v w = refl
+or-both (Some e) v w = refl
 
 module _ {A : Type 0} (f : A → Next) where
   next-append : (xs ys : List A) → first_next f (xs ++ ys) ≡ or_next (first_next f xs) (first_next f ys)
@@ -116,7 +116,7 @@ module _ (alike : Alike) (r : Rules) (x : Alts) (q : Queries) (d : Answers) (s :
   items-first [] = refl
   items-first (i ∷ l) =
       let e = endpoint_of r x d s i in
-      new-step (attempted alike a e) e (first_of (λ y. not (attempted alike a y)) (map (endpoint_of r x d s) l)) ∙ ap (or_next (cond (attempted alike a e) next.Nothing (next.New e))) (items-first l)
+      new-step (attempted alike a e) e (first_of (λ y. not (attempted alike a y)) (map (endpoint_of r x d s) l)) ∙ ap (or_next (cond (attempted alike a e) None (Some e))) (items-first l)
 
   -- what tier k has
   unfoldable pub tier_new : ℕ → Next
@@ -131,29 +131,28 @@ module _ (alike : Alike) (r : Rules) (x : Alts) (q : Queries) (d : Answers) (s :
   by-tier = sym (items-first (items_to_attempt r x q s same) ∙ (ap (first_next (item_new alike r x d s a)) (tier-by-tier r x q s same) ∙ next-each (item_new alike r x d s a) (tier_at r x q s same) (upto (tier_count r s))))
 
   -- how far the code has come: the tiers from k on have what the listing has
-  unfoldable pub tiers_from : (n k : ℕ) → Next
-  tiers_from n k = first_next tier_new (drop k (take n (upto n)))
+  unfoldable pub tiers_from : ℕ → Next
+  tiers_from k = first_next tier_new (drop k (upto (tier_count r s)))
 
-  pub tiers-all : (n : ℕ) → n ≡ tier_count r s → tiers_from n 0 ≡ next_endpoint alike r x q d s a same
+  pub tiers_all : tiers_from 0 ≡ next_endpoint alike r x q d s a same
   unfolding tiers_from
-  tiers-all n e = ap (first_next tier_new) (take_all n (upto n) (omega (arith, length-upto n))) ∙ (ap (λ m. first_next tier_new (upto m)) e ∙ by-tier)
+  tiers_all = by-tier
 
-  module _ (n k : ℕ) (t : Next) (p : tiers_from n k ≡ t) where
-    module _ (h : k < n) (w : Next) (e : w ≡ tier_new k) where
-      at : w ≡ tier_new (get_or (upto n) k 0)
-      at = e ∙ ap tier_new (sym (get_or-upto n k h))
+  module _ (k : ℕ) (w : Next) (h : k < tier_count r s) (e : w ≡ tier_new k) where
+    at : w ≡ tier_new (get_or (upto (tier_count r s)) k 0)
+    at = e ∙ ap tier_new (sym (get_or-upto (tier_count r s) k h))
 
-      pub tiers-here : is_new w ≡ true → w ≡ t
-      unfolding tiers_from
-      tiers-here g = next_here 0 tier_new n (upto n) k t p h (omega (arith, length-upto n)) w at g
-
-      pub tiers-more : is_new w ≡ false → tiers_from n (k + 1) ≡ t
-      unfolding tiers_from
-      tiers-more g = next_more 0 tier_new n (upto n) k t p h (omega (arith, length-upto n)) w at g
-
-    pub tiers-past : n ≤ k → next.Nothing ≡ t
+    pub tiers_here : is_some w ≡ true → tiers_from k ≡ w
     unfolding tiers_from
-    tiers-past h = next_past 0 tier_new n (upto n) k t p h
+    tiers_here g = next_here tier_new 0 (upto (tier_count r s)) k w (omega (arith, length-upto (tier_count r s))) at g
+
+    pub tiers_more : is_some w ≡ false → tiers_from k ≡ tiers_from (k + 1)
+    unfolding tiers_from
+    tiers_more g = next_more tier_new 0 (upto (tier_count r s)) k w (omega (arith, length-upto (tier_count r s))) at g
+
+  pub tiers_past : (k : ℕ) → tier_count r s ≤ k → tiers_from k ≡ None
+  unfolding tiers_from
+  tiers_past k h = next_past tier_new (upto (tier_count r s)) k (omega (arith, length-upto (tier_count r s)))
 
 -- there are at most five tiers
 pub five-tiers : (r : Rules) (s : Services) → length s.list ≡ 4 → tier_count r s ≤ 5

@@ -1,50 +1,48 @@
 -- Looking for the first that wants a query, one member a turn.
-use Prim.Native.Nat.{ℕ, ◌+◌, ◌≤◌, ◌<◌}
-use mathlib.Core.Path.{◌≡◌, refl, ap, ◌∙◌}
-use mathlib.Core.Bool.{true, false}
+use Rattle.std.specs.Prelude.{Some, None, is_some}
+use Prim.Native.Nat.{ℕ, suc, ◌+◌, ◌≤◌, ◌<◌}
+use mathlib.Core.Path.{◌≡◌, refl, sym, ap, ◌∙◌}
+use mathlib.Core.Bool.{Bool, true, false, cond, ◌||◌}
 use mathlib.Core.List.{List}
-use lib.ListN.{length, take, drop, get_or}
-use Rattle.records.specs.declared.rules.Mode.{Mode}
-use Rattle.records.specs.declared.rules.Mode.TheVariants as mode
-use Rattle.records.proofs.Walk.{rest_more, rest-none, rest_end}
-use Rattle.upcoming.specs.declared.wanted.Wanted.{Wanted}
-use Rattle.upcoming.specs.declared.wanted.Wanted.TheVariants as wanted
-use Rattle.upcoming.specs.Wanted.{or_wanted, is_wanted, first_wanted, wanted_in}
+use Rattle.records.specs.Lists.{some?}
+use native.Mathlib.Numerals.{add-one}
+use lib.ListN.{length, drop, get_or, drop_of_length-le}
+use lib.Seq.{drop-cons}
+use Rattle.upcoming.specs.Wanted.{Wanted, or_wanted, first_wanted}
 
-pub or-take : (w v : Wanted) → is_wanted w ≡ true → w ≡ or_wanted w v
-or-take wanted.Nothing v h = cc
-or-take (wanted.Query k p) v h = refl
-
-pub or-skip : (w v : Wanted) → is_wanted w ≡ false → v ≡ or_wanted w v
-or-skip wanted.Nothing v h = refl
-or-skip (wanted.Query k p) v h = cc
-
--- what each mode comes to
-pub ip-here : (m : Mode) (o v w : Wanted) → m ≡ mode.Ip → w ≡ o → is_wanted w ≡ true → w ≡ wanted_in m o v
-ip-here m o v w t e h = rw (t, ← e) (or-take w v h)
-
-pub ip-other : (m : Mode) (o v w u : Wanted) → m ≡ mode.Ip → w ≡ o → is_wanted w ≡ false → u ≡ v → u ≡ wanted_in m o v
-ip-other m o v w u t e h f = rw (t, ← e, ← f) (or-skip w u h)
-
-pub https-only : (m : Mode) (o v w : Wanted) → m ≡ mode.NameWithHttpsRr → w ≡ o → w ≡ wanted_in m o v
-https-only m o v w t e = rw (t) e
-
-module _ {A : Type 0} (d : A) (f : ℕ → A → Wanted) (n : ℕ) (l : List A) (i : ℕ) (t : Wanted) (p : first_wanted f i (drop i (take n l)) ≡ t) where
-  found : i < n → i < length l → or_wanted (f i (get_or l i d)) (first_wanted f (i + 1) (drop (i + 1) (take n l))) ≡ t
+-- one turn: it wants one, or the rest does; none is left
+module _ {A : Type 0} (f : ℕ → A → Wanted) (d : A) (l : List A) (i : ℕ) where
+  step : i < length l → first_wanted f i (drop i l) ≡ or_wanted (f i (get_or l i d)) (first_wanted f (i + 1) (drop (i + 1) l))
   unfolding first_wanted
-  found h k = rw (rest_more n l i d h k) at p
+  step h = rw (drop-cons l i d, first_wanted, add-one)
 
-  module _ (h : i < n) (k : i < length l) (w : Wanted) (e : w ≡ f i (get_or l i d)) where
-    pub want-here : is_wanted w ≡ true → w ≡ t
-    want-here g = or-take w (first_wanted f (i + 1) (drop (i + 1) (take n l))) g ∙ (ap (λ x. or_wanted x (first_wanted f (i + 1) (drop (i + 1) (take n l)))) e ∙ found h k)
+  pub want_here : (w : Wanted) → i < length l → w ≡ f i (get_or l i d) → is_some w ≡ true → first_wanted f i (drop i l) ≡ w
+  want_here (Some (k, p)) h e g = step h ∙ ap (λ x. or_wanted x (first_wanted f (i + 1) (drop (i + 1) l))) (sym e)
+  want_here None h e g = cc
 
-    pub want-next : is_wanted w ≡ false → first_wanted f (i + 1) (drop (i + 1) (take n l)) ≡ t
-    want-next g = or-skip w (first_wanted f (i + 1) (drop (i + 1) (take n l))) g ∙ (ap (λ x. or_wanted x (first_wanted f (i + 1) (drop (i + 1) (take n l)))) e ∙ found h k)
+  pub want_more : (w : Wanted) → i < length l → w ≡ f i (get_or l i d) → is_some w ≡ false → first_wanted f i (drop i l) ≡ first_wanted f (i + 1) (drop (i + 1) l)
+  want_more None h e g = step h ∙ ap (λ x. or_wanted x (first_wanted f (i + 1) (drop (i + 1) l))) (sym e)
+  want_more (Some (k, p)) h e g = cc
 
-  pub want-past : n ≤ i → wanted.Nothing ≡ t
-  unfolding first_wanted
-  want-past h = rw (rest-none n l i h) at p
+pub want_past : {A : Type 0} (f : ℕ → A → Wanted) (l : List A) (i : ℕ) → length l ≤ i → first_wanted f i (drop i l) ≡ None
+unfolding first_wanted
+want_past f l i h = rw (drop_of_length-le l {i = i} h)
 
-  pub want-all : length l ≤ i → wanted.Nothing ≡ t
-  unfolding first_wanted
-  want-all h = rw (rest_end n l i h) at p
+-- whether some member has it: what the first ones have, or the rest
+or-one : (s t r : Bool) → (s || t) || r ≡ s || cond t true r
+or-one true t r = refl
+or-one false true r = refl
+or-one false false r = refl
+
+or-end : (s : Bool) → s || false ≡ s
+or-end true = refl
+or-end false = refl
+
+pub or_more : {A : Type 0} (test : A → Bool) (d : A) (l : List A) (i : ℕ) (s t : Bool) → i < length l → t ≡ s || test (get_or l i d) → t || some? test (drop (i + 1) l) ≡ s || some? test (drop i l)
+unfolding some?
+or_more test d l i s t h e =
+    rw (drop-cons l i d, some?, add-one) (ap (λ b. b || some? test (drop (suc i) l)) e ∙ or-one s (test (get_or l i d)) (some? test (drop (suc i) l)))
+
+pub or_past : {A : Type 0} (test : A → Bool) (l : List A) (i : ℕ) (s : Bool) → length l ≤ i → s || some? test (drop i l) ≡ s
+unfolding some?
+or_past test l i s h = rw (drop_of_length-le l {i = i} h, some?) (or-end s)

@@ -1,6 +1,6 @@
 -- What is attempted next (document 01, parts 4 to 6): the first retry, or the first of the listing, that wasn't attempted.
 -- `same` says of two places among the names whether they hold the same name, `alike` of two endpoints whether they are one.
-use Rattle.std.specs.Prelude.{ℕ, ◌+◌, Bool, true, false, not, cond, List, [], ◌∷◌, nat_lt, get_or}
+use Rattle.std.specs.Prelude.{Option as Maybe, Some, None, ℕ, ◌+◌, Bool, not, cond, List, [], ◌∷◌, nat_lt, get_or}
 use Rattle.std.proofs.Math.Option.{Option, none, some}
 use Rattle.records.specs.Lists.{some?, first_of}
 use Rattle.records.specs.References.{endpoint_of}
@@ -17,8 +17,6 @@ use Rattle.listing.specs.Listing.{endpoints_to_attempt}
 use Rattle.state.specs.State.{tried, retries_of, no_attempt}
 use Rattle.state.specs.declared.attempts.Attempts.{Attempts}
 use Rattle.state.specs.declared.attempts.Retries.{Retries}
-use Rattle.upcoming.specs.declared.next.Next.{Next}
-use Rattle.upcoming.specs.declared.next.Next.TheVariants as next
 
 abbrev pub Alike : Type 0
 Alike = Endpoint → Endpoint → Bool
@@ -26,9 +24,13 @@ Alike = Endpoint → Endpoint → Bool
 unfoldable pub attempted : Alike → Attempts → Endpoint → Bool
 attempted alike a e = some? (λ x. alike e x.endpoint) (tried a)
 
+-- the endpoint that is attempted next, if any
+abbrev pub Next : Type 0
+Next = Maybe Endpoint
+
 abbrev pub next_of : Option Endpoint → Next
-next_of none = next.Nothing
-next_of (some e) = next.New e
+next_of none = None
+next_of (some e) = Some e
 
 -- "ECH retry": attempt p's endpoint with the bytes that came for it, in order of arrival
 abbrev pub retried_with : Endpoint → ℕ → Endpoint
@@ -53,22 +55,18 @@ next_endpoint alike r l q d s a same = next_of (first_of (λ e. not (attempted a
 
 -- the first of two that is one
 abbrev pub or_next : Next → Next → Next
-or_next next.Nothing n = n
-or_next (next.New e) n = next.New e
-
-abbrev pub is_new : Next → Bool
-is_new next.Nothing = false
-is_new (next.New e) = true
+or_next None n = n
+or_next (Some e) n = Some e
 
 unfoldable pub first_next : {A : Type 0} → (A → Next) → List A → Next
-first_next f [] = next.Nothing
+first_next f [] = None
 first_next f (x ∷ l) = or_next (f x) (first_next f l)
 
 unfoldable pub if_new : Alike → Attempts → Endpoint → Next
-if_new alike a e = cond (attempted alike a e) next.Nothing (next.New e)
+if_new alike a e = cond (attempted alike a e) None (Some e)
 
 unfoldable pub retry_new : Alike → Attempts → ℕ → Next
-retry_new alike a p = cond (nat_lt p 32) (if_new alike a (retried_at a p)) next.Nothing
+retry_new alike a p = cond (nat_lt p 32) (if_new alike a (retried_at a p)) None
 
 abbrev pub item_new : Alike → Rules → Alts → Answers → Services → Attempts → Item → Next
 item_new alike r l d s a x = if_new alike a (endpoint_of r l d s x)

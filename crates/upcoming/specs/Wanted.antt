@@ -1,6 +1,6 @@
 -- Which query is wanted next (document 01, part 5; `send_dns_*`): origin HTTPS, AAAA, A; targets; alternative services.
 -- `same` says of two places among the names whether they hold the same name.
-use Rattle.std.specs.Prelude.{ℕ, ◌+◌, Bool, true, false, not, cond, ◌&&◌, List, [], ◌∷◌, nat_eq, take}
+use Rattle.std.specs.Prelude.{Option, Some, None, ℕ, ◌+◌, Bool, false, not, cond, ◌&&◌, List, [], ◌∷◌, nat_eq, take}
 use Rattle.records.specs.Lists.{some?}
 use Rattle.records.specs.Numbers.{kind_number}
 use Rattle.records.specs.Rules.{allows_six, allows_four, is_named}
@@ -22,22 +22,20 @@ use Rattle.listing.specs.Held.{Same}
 use Rattle.state.specs.State.{asked, https_place}
 use Rattle.starting.specs.declared.surveys.Kinds.{Kinds}
 use Rattle.upcoming.specs.declared.wanted.Families.{Families}
-use Rattle.upcoming.specs.declared.wanted.Wanted.{Wanted}
-use Rattle.upcoming.specs.declared.wanted.Wanted.TheVariants as wanted
 use Rattle.starting.specs.Surveys.{is_kind, kinds_of}
+
+-- a type and a name by place, if a query is wanted
+abbrev pub Wanted : Type 0
+Wanted = Option (Kind × ℕ)
 
 -- the first of two that wants something
 abbrev pub or_wanted : Wanted → Wanted → Wanted
-or_wanted wanted.Nothing w = w
-or_wanted (wanted.Query k p) w = wanted.Query k p
-
-abbrev pub is_wanted : Wanted → Bool
-is_wanted wanted.Nothing = false
-is_wanted (wanted.Query k p) = true
+or_wanted None w = w
+or_wanted (Some (k, p)) w = Some (k, p)
 
 -- the first of a list's members, counted from i, that wants something
 unfoldable pub first_wanted : {A : Type 0} → (ℕ → A → Wanted) → ℕ → List A → Wanted
-first_wanted f i [] = wanted.Nothing
+first_wanted f i [] = None
 first_wanted f i (x ∷ l) = or_wanted (f i x) (first_wanted f (i + 1) l)
 
 -- whether a record of a type and name is one of that type for the name at p
@@ -57,7 +55,7 @@ is_missing allowed was = allowed && not was
 -- the first address type that is allowed and wasn't asked for: AAAA before A, whatever is preferred
 unfoldable pub missing : Preference → Families → ℕ → Wanted
 missing p f place =
-    cond (is_missing (allows_six p) f.six) (wanted.Query Aaaa place) (cond (is_missing (allows_four p) f.four) (wanted.Query A place) wanted.Nothing)
+    cond (is_missing (allows_six p) f.six) (Some (Aaaa, place)) (cond (is_missing (allows_four p) f.four) (Some (A, place)) None)
 
 unfoldable pub place_wanted : Preference → Queries → Same → ℕ → Wanted
 place_wanted p q same place = missing p (asked_for q same place) place
@@ -65,16 +63,16 @@ place_wanted p q same place = missing p (asked_for q same place) place
 -- HTTPS, then in mode Ip the addresses. A record of the type is the origin's: those come first.
 abbrev pub origin_addresses : Mode → Preference → Kinds → Wanted
 origin_addresses mode.Ip p k = missing p (record { six = k.aaaa; four = k.a }) 0
-origin_addresses mode.Name p k = wanted.Nothing
-origin_addresses mode.NameWithHttpsRr p k = wanted.Nothing
+origin_addresses mode.Name p k = None
+origin_addresses mode.NameWithHttpsRr p k = None
 
 unfoldable pub origin_wanted : Rules → Kinds → Wanted
 origin_wanted r k =
-    cond (is_named r.host) (cond k.https (origin_addresses r.mode r.preference k) (wanted.Query Https (https_place r))) wanted.Nothing
+    cond (is_named r.host) (cond k.https (origin_addresses r.mode r.preference k) (Some (Https, (https_place r)))) None
 
 -- services without ECH are skipped if any has it; in the answer's order
 unfoldable pub target_wanted : Preference → Queries → Same → Bool → Service → Wanted
-target_wanted p q same sealed s = cond (is_usable sealed s.ech) (place_wanted p q same s.name) wanted.Nothing
+target_wanted p q same sealed s = cond (is_usable sealed s.ech) (place_wanted p q same s.name) None
 
 unfoldable pub targets_wanted : Rules → Queries → Services → Same → Wanted
 targets_wanted r q s same = first_wanted (λ i. target_wanted r.preference q same (any_ech r.ech s)) 0 (offered s)
@@ -85,7 +83,7 @@ own_name alt.Origin = false
 own_name (alt.Own h) = is_named h
 
 unfoldable pub alt_wanted : Preference → Queries → Same → ℕ → AltHost → Wanted
-alt_wanted p q same place h = cond (own_name h) (place_wanted p q same place) wanted.Nothing
+alt_wanted p q same place h = cond (own_name h) (place_wanted p q same place) None
 
 unfoldable pub alts_wanted : Rules → Alts → Queries → Same → Wanted
 alts_wanted r a q same = first_wanted (λ i x. alt_wanted r.preference q same (i + 1) x.host) 0 (take a.count a.list)
@@ -93,7 +91,7 @@ alts_wanted r a q same = first_wanted (λ i x. alt_wanted r.preference q same (i
 -- `NameWithHttpsRr` asks for the HTTPS record only, `Name` for none
 abbrev pub wanted_in : Mode → Wanted → Wanted → Wanted
 wanted_in mode.Ip origin others = or_wanted origin others
-wanted_in mode.Name origin others = wanted.Nothing
+wanted_in mode.Name origin others = None
 wanted_in mode.NameWithHttpsRr origin others = origin
 
 -- where records of those types were asked for

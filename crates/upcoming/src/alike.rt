@@ -25,6 +25,7 @@ pub struct Alike {
 }
 
 // The class of a place. Outside the table a host is the origin's, and ECH bytes are none.
+#[tactic(auto, unfolding(crate::specs::Alike::host_class))]
 fn host_class(t: SameHosts, place: u8) -> u8
     ensures { result ≡ host_class t place }
 {
@@ -35,6 +36,7 @@ fn host_class(t: SameHosts, place: u8) -> u8
     14
 }
 
+#[tactic(auto, unfolding(crate::specs::Alike::ech_class))]
 fn ech_class(t: SameEchs, place: u8) -> u8
     ensures { result ≡ ech_class t place }
 {
@@ -72,6 +74,7 @@ fn alike_echs(t: SameEchs, a: EchPlace, b: EchPlace) -> bool
 }
 
 // Whether two endpoints are one: by their numbers first, then by what is alike.
+#[tactic(auto, unfolding(crate::specs::Alike::alike_endpoints))]
 pub fn alike_endpoints(hosts: SameHosts, echs: SameEchs, a: Endpoint, b: Endpoint) -> bool
     ensures { result ≡ alike_endpoints hosts echs a b }
 {

@@ -1,7 +1,7 @@
 // Which query is wanted next: the origin's, those for the services' targets, those for the alternative services.
 ghost use Rattle.std.specs.Prelude.{◌+◌, ◌≡◌};
 ghost use Rattle.records.specs.Classes.{same_class};
-ghost use Rattle.upcoming.specs.Wanted.{is_asked, asked_for, is_missing, missing, place_wanted, is_wanted, origin_wanted, target_wanted, targets_wanted, own_name, alt_wanted, alts_wanted, or_wanted, wanted_by};
+ghost use Rattle.upcoming.specs.Wanted.{is_asked, asked_for, is_missing, missing, place_wanted, origin_wanted, target_wanted, targets_wanted, own_name, alt_wanted, alts_wanted, or_wanted, wanted_by};
 
 use records::names::{SameNames, same_class};
 use records::queries::{Kind, Queries, kind_number};
@@ -9,13 +9,10 @@ use records::rules::{AltHost, Alts, Mode, Preference, Rules, allows_four, allows
 use records::services::{Service, Services, any_ech, is_usable};
 use starting::surveys::{Asks, Kinds, either};
 use state::https_place;
+use state::members::in_use;
 
-// A type and a name by place.
-#[derive(Clone, Copy)]
-pub enum Wanted {
-    Nothing,
-    Query(Kind, u8),
-}
+// A type and a name by place, if a query is wanted.
+pub type Wanted = Option<(Kind, u8)>;
 
 // Which address types were asked for a name.
 #[derive(Clone, Copy)]
@@ -25,6 +22,7 @@ pub struct Families {
 }
 
 // Whether a record of a type and name is one of type k for the name at a place.
+#[tactic(auto, unfolding(crate::specs::Wanted::is_asked))]
 fn is_asked(same: SameNames, k: Kind, place: u8, kind: Kind, name: u8) -> bool
     ensures { result ≡ is_asked (same_class same) k place kind name }
 {
@@ -34,22 +32,14 @@ fn is_asked(same: SameNames, k: Kind, place: u8, kind: Kind, name: u8) -> bool
     same_class(same, name, place)
 }
 
-fn asked_for(queries: Queries, same: SameNames, place: u8) -> Families
-    ensures { result ≡ asked_for queries (same_class same) place }
+fn asked_for(queries: &Queries, same: SameNames, place: u8) -> Families
+    ensures { result ≡ asked_for queries.now (same_class same) place }
 {
-    let n = queries.count;
     let mut six = false;
     let mut four = false;
-    let mut i: usize = 0;
-    while i < 16 {
-        if n <= i {
-            return Families { six, four };
-        }
-        let q = queries.list[i];
-        let k = q.kind;
-        six = either(six, is_asked(same, Kind::Aaaa, place, k, q.name));
-        four = either(four, is_asked(same, Kind::A, place, k, q.name));
-        i += 1;
+    for q in in_use(&queries.list, queries.count) {
+        six = either(six, is_asked(same, Kind::Aaaa, place, q.kind, q.name));
+        four = either(four, is_asked(same, Kind::A, place, q.kind, q.name));
     }
     Families { six, four }
 }
@@ -64,34 +54,28 @@ fn is_missing(allowed: bool, was: bool) -> bool
 }
 
 // The first address type that is allowed and was not asked for: AAAA before A, whatever is preferred.
+#[tactic(auto, unfolding(crate::specs::Wanted::missing))]
 fn missing(p: Preference, asked: Families, place: u8) -> Wanted
     ensures { result ≡ missing p asked place }
 {
     if is_missing(allows_six(p), asked.six) {
-        return Wanted::Query(Kind::Aaaa, place);
+        return Some((Kind::Aaaa, place));
     }
     if is_missing(allows_four(p), asked.four) {
-        return Wanted::Query(Kind::A, place);
+        return Some((Kind::A, place));
     }
-    Wanted::Nothing
+    None
 }
 
-fn place_wanted(p: Preference, queries: Queries, same: SameNames, place: u8) -> Wanted
-    ensures { result ≡ place_wanted p queries (same_class same) place }
+#[tactic(auto, unfolding(crate::specs::Wanted::place_wanted))]
+fn place_wanted(p: Preference, queries: &Queries, same: SameNames, place: u8) -> Wanted
+    ensures { result ≡ place_wanted p queries.now (same_class same) place }
 {
     missing(p, asked_for(queries, same, place), place)
 }
 
-fn is_wanted(w: Wanted) -> bool
-    ensures { result ≡ is_wanted w }
-{
-    match w {
-        Wanted::Nothing => false,
-        Wanted::Query(_, _) => true,
-    }
-}
-
 // HTTPS for a named origin, then in mode Ip its addresses. A record of the type is the origin's: those come first.
+#[tactic(auto, unfolding(crate::specs::Wanted::origin_wanted))]
 pub fn origin_wanted(rules: Rules, k: Kinds) -> Wanted
     ensures { result ≡ origin_wanted rules k }
 {
@@ -99,10 +83,10 @@ pub fn origin_wanted(rules: Rules, k: Kinds) -> Wanted
     let m = rules.mode;
     let p = rules.preference;
     if !is_named(h) {
-        return Wanted::Nothing;
+        return None;
     }
     if !k.https {
-        return Wanted::Query(Kind::Https, https_place(rules));
+        return Some((Kind::Https, https_place(rules)));
     }
     match m {
         Mode::Ip => {
@@ -112,48 +96,42 @@ pub fn origin_wanted(rules: Rules, k: Kinds) -> Wanted
             };
             missing(p, asked, 0)
         }
-        Mode::Name => Wanted::Nothing,
-        Mode::NameWithHttpsRr => Wanted::Nothing,
+        Mode::Name => None,
+        Mode::NameWithHttpsRr => None,
     }
 }
 
 // Services without ECH are skipped if any has it.
+#[tactic(auto, unfolding(crate::specs::Wanted::target_wanted))]
 fn target_wanted(
     p: Preference,
-    queries: Queries,
+    queries: &Queries,
     same: SameNames,
     sealed: bool,
     s: Service,
 ) -> Wanted
-    ensures { result ≡ target_wanted p queries (same_class same) sealed s }
+    ensures { result ≡ target_wanted p queries.now (same_class same) sealed s }
 {
     let e = s.ech;
     if is_usable(sealed, e) {
         return place_wanted(p, queries, same, s.name);
     }
-    Wanted::Nothing
+    None
 }
 
 // In the answer's order.
-fn targets_wanted(rules: Rules, queries: Queries, services: Services, same: SameNames) -> Wanted
-    ensures { result ≡ targets_wanted rules queries services (same_class same) }
+fn targets_wanted(rules: Rules, queries: &Queries, services: Services, same: SameNames) -> Wanted
+    ensures { result ≡ targets_wanted rules queries.now services (same_class same) }
 {
-    let n = services.count;
     let p = rules.preference;
     let sealed = any_ech(rules.ech, services);
-    let mut i: usize = 0;
-    while i < 4 {
-        if n <= i {
-            return Wanted::Nothing;
-        }
-        let s = services.list[i];
+    for &s in in_use(&services.list, services.count) {
         let w = target_wanted(p, queries, same, sealed, s);
-        if is_wanted(w) {
+        if w.is_some() {
             return w;
         }
-        i += 1;
     }
-    Wanted::Nothing
+    None
 }
 
 fn is_own_name(h: AltHost) -> bool
@@ -165,55 +143,49 @@ fn is_own_name(h: AltHost) -> bool
     }
 }
 
-fn alt_wanted(p: Preference, queries: Queries, same: SameNames, place: u8, h: AltHost) -> Wanted
-    ensures { result ≡ alt_wanted p queries (same_class same) place h }
+#[tactic(auto, unfolding(crate::specs::Wanted::alt_wanted))]
+fn alt_wanted(p: Preference, queries: &Queries, same: SameNames, place: u8, h: AltHost) -> Wanted
+    ensures { result ≡ alt_wanted p queries.now (same_class same) place h }
 {
     if is_own_name(h) {
         return place_wanted(p, queries, same, place);
     }
-    Wanted::Nothing
+    None
 }
 
 // Alternative services that have a name of their own.
-fn alts_wanted(rules: Rules, alts: Alts, queries: Queries, same: SameNames) -> Wanted
-    ensures { result ≡ alts_wanted rules alts queries (same_class same) }
+fn alts_wanted(rules: Rules, alts: Alts, queries: &Queries, same: SameNames) -> Wanted
+    ensures { result ≡ alts_wanted rules alts queries.now (same_class same) }
 {
-    let n = alts.count;
     let p = rules.preference;
-    let mut i: usize = 0;
-    while i < 4 {
-        if n <= i {
-            return Wanted::Nothing;
-        }
-        let a = alts.list[i];
-        let h = a.host;
-        let w = alt_wanted(p, queries, same, (i + 1) as u8, h);
-        if is_wanted(w) {
+    for (i, a) in in_use(&alts.list, alts.count).iter().enumerate() {
+        let w = alt_wanted(p, queries, same, (i + 1) as u8, a.host);
+        if w.is_some() {
             return w;
         }
-        i += 1;
     }
-    Wanted::Nothing
+    None
 }
 
 // The targets' and the alternatives'.
 fn others_wanted(
     rules: Rules,
     alts: Alts,
-    queries: Queries,
+    queries: &Queries,
     services: Services,
     same: SameNames,
 ) -> Wanted
-    ensures { result ≡ or_wanted (targets_wanted rules queries services (same_class same)) (alts_wanted rules alts queries (same_class same)) }
+    ensures { result ≡ or_wanted (targets_wanted rules queries.now services (same_class same)) (alts_wanted rules alts queries.now (same_class same)) }
 {
     let t = targets_wanted(rules, queries, services, same);
-    if is_wanted(t) {
+    if t.is_some() {
         return t;
     }
     alts_wanted(rules, alts, queries, same)
 }
 
 // `NameWithHttpsRr` asks for the HTTPS record only, `Name` for none.
+#[tactic(auto, unfolding(crate::specs::Wanted::wanted_by))]
 pub fn next_query(
     rules: Rules,
     alts: Alts,
@@ -229,12 +201,12 @@ pub fn next_query(
     match m {
         Mode::Ip => {
             let o = origin_wanted(rules, k);
-            if is_wanted(o) {
+            if o.is_some() {
                 return o;
             }
-            others_wanted(rules, alts, queries, services, same)
+            others_wanted(rules, alts, &queries, services, same)
         }
-        Mode::Name => Wanted::Nothing,
+        Mode::Name => None,
         Mode::NameWithHttpsRr => origin_wanted(rules, k),
     }
 }

@@ -1,10 +1,6 @@
 -- `starting::surveys::asks_of` meets its contract: what is noted, with the rest, is all.
-use Prim.Native.Nat.{◌-◌}
 use Rattle.starting.proofs.Noted.{Asked}
 use Rattle.starting.proofs.surveys.asks_of.Given as goal
 
 abbrev pub invariant-loop-i : goal.invariant-loop-i
-invariant-loop-i l = Asked l.queries l.i l.s
-
-abbrev pub decreases-loop-i : goal.decreases-loop-i
-decreases-loop-i l = 16 - l.i
+invariant-loop-i l = Asked l.asked l.i l.s

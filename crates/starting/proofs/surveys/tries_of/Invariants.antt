@@ -1,10 +1,6 @@
 -- `starting::surveys::tries_of` meets its contract: what is noted, with the rest, is all.
-use Prim.Native.Nat.{◌-◌}
 use Rattle.starting.proofs.Noted.{Tried}
 use Rattle.starting.proofs.surveys.tries_of.Given as goal
 
 abbrev pub invariant-loop-i : goal.invariant-loop-i
-invariant-loop-i l = Tried l.attempts l.i l.t
-
-abbrev pub decreases-loop-i : goal.decreases-loop-i
-decreases-loop-i l = 32 - l.i
+invariant-loop-i l = Tried l.tried l.i l.t

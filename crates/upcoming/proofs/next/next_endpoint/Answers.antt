@@ -1,28 +1,29 @@
 use mathlib.Core.Path.{◌≡◌, sym, ◌∙◌}
-use lib.ListN.{length}
 use native.Mathlib.Omega.{arith}
-use Rattle.upcoming.proofs.Nexts.{tiers-all, tiers-here, tiers-more, tiers-past, tier-new, five-tiers}
+use Prim.Native.Nat.{◌<◌}
+use lib.ListN.{length}
 use borrow.Author.Rules.{rules}
+use Rattle.upcoming.proofs.Nexts.{tier-new, tiers_all, tiers_here, tiers_more, tiers_past, five-tiers}
 use Rattle.upcoming.proofs.next.next_endpoint.Goals as goal
 
--- there is room for four services
-rooms : (c : goal.After-loop-k) → length c.args.services.list ≡ 4
-rooms c = search rules
+few : (c : goal.In-loop-k) → c.loop-k.k < 5
+few c =
+    let rooms : length c.args.services.list ≡ 4 = search rules in
+    omega (arith, c.tier_count-n.ensures, five-tiers c.args.rules c.args.services rooms)
 
 pub loop-k-init : goal.loop-k-init
-loop-k-init c = (omega arith, c.tier_count-n.ensures, tiers-all _ _ _ _ _ _ _ _ _ c.tier_count-n.ensures)
+loop-k-init c = tiers_all _ _ _ _ _ _ _ _
 
-pub returns-then-n-k : goal.returns-then-n-k
-returns-then-n-k c = tiers-past _ _ _ _ _ _ _ _ _ _ _ c.loop-k.invariant.2 c.if-n-k.true
+pub overflow_cast-k : goal.overflow_cast-k
+overflow_cast-k c = let h = few c in search rules
 
-pub returns-then-is_new : goal.returns-then-is_new
-returns-then-is_new c =
-    tiers-here _ _ _ _ _ _ _ _ _ _ _ c.loop-k.invariant.2 c.if-n-k.false _ (tier-new _ _ _ _ _ _ _ _ _ _ c.tier_at-t.ensures _ c.first_new-f.ensures) (sym c.is_new.ensures ∙ c.if-is_new.true)
+pub returns-then-is_some : goal.returns-then-is_some
+returns-then-is_some c =
+    sym (tiers_here _ _ _ _ _ _ _ _ _ _ (omega (arith, c.tier_count-n.ensures)) (tier-new _ _ _ _ _ _ _ _ _ _ c.tier_at-t.ensures _ c.first_new-w.ensures) (sym c.is_some.ensures ∙ c.if-is_some.true)) ∙ c.loop-k.invariant
 
 pub loop-k-preserved : goal.loop-k-preserved
 loop-k-preserved c =
-    (omega arith, c.loop-k.invariant.1, tiers-more _ _ _ _ _ _ _ _ _ _ _ c.loop-k.invariant.2 c.if-n-k.false _ (tier-new _ _ _ _ _ _ _ _ _ _ c.tier_at-t.ensures _ c.first_new-f.ensures) (sym c.is_new.ensures ∙ c.if-is_new.false))
+    sym (tiers_more _ _ _ _ _ _ _ _ _ _ (omega (arith, c.tier_count-n.ensures)) (tier-new _ _ _ _ _ _ _ _ _ _ c.tier_at-t.ensures _ c.first_new-w.ensures) (sym c.is_some.ensures ∙ c.if-is_some.false)) ∙ c.loop-k.invariant
 
 pub returns : goal.returns
-returns c =
-    tiers-past _ _ _ _ _ _ _ _ _ _ _ c.loop-k.invariant.2 (omega (arith, c.loop-k.invariant.1, five-tiers c.args.rules c.args.services (rooms c)))
+returns c = sym (tiers_past _ _ _ _ _ _ _ _ _ (omega (arith, c.tier_count-n.ensures))) ∙ c.loop-k.invariant

@@ -1,44 +1,18 @@
-use Prim.Native.Nat.{◌≤◌, ◌<◌}
-use mathlib.Core.Path.{◌≡◌, sym, ◌∙◌}
-use lib.ListN.{length}
-use native.Mathlib.Omega.{arith}
-use Rattle.records.specs.Classes.{same_class}
+use mathlib.Core.Path.{sym, ap, ◌∙◌}
 use Rattle.records.specs.Services.{blank_service}
-use Rattle.upcoming.specs.Wanted.{target_wanted, targets_wanted}
-use Rattle.upcoming.proofs.Wanting.{want-here, want-next, want-past, want-all}
-use borrow.Author.Rules.{rules}
+use Rattle.upcoming.specs.Wanted.{first_wanted, targets_wanted}
+use Rattle.upcoming.proofs.Wanting.{want_here, want_more, want_past}
 use Rattle.upcoming.proofs.wanted.targets_wanted.Goals as goal
 
--- there is room for four services
-has : (c : goal.Then-is_wanted) → length c.args.services.list ≡ 4
-has c = search rules
-
--- there is room for four services
-has-2 : (c : goal.Else-is_wanted) → length c.args.services.list ≡ 4
-has-2 c = search rules
-
--- there is room for four services
-has-3 : (c : goal.After-loop-i) → length c.args.services.list ≡ 4
-has-3 c = search rules
-
-pub returns-then-n-i : goal.returns-then-n-i
+pub returns-then-is_some : goal.returns-then-is_some
 unfolding targets_wanted
-returns-then-n-i c =
-    rw (← c.any_ech-sealed.ensures) (want-past blank_service (λ j. target_wanted c.args.rules.preference c.args.queries (same_class c.args.same) c.any_ech-sealed.result) c.args.services.count c.args.services.list c.loop-i.i _ c.loop-i.invariant.1 c.if-n-i.true)
+returns-then-is_some c =
+    rw (← c.any_ech-sealed.ensures) (sym (want_here _ blank_service _ _ _ c.loop-s-test.true c.target_wanted-w.ensures (sym c.is_some.ensures ∙ c.if-is_some.true)) ∙ (c.loop-s.invariant ∙ ap (first_wanted _ 0) c.in_use-s-items.ensures))
 
-pub returns-then-is_wanted : goal.returns-then-is_wanted
-unfolding targets_wanted
-returns-then-is_wanted c =
-    let k : c.loop-i.i < length c.args.services.list = omega (arith, has c) in
-    rw (← c.any_ech-sealed.ensures) (want-here blank_service (λ j. target_wanted c.args.rules.preference c.args.queries (same_class c.args.same) c.any_ech-sealed.result) c.args.services.count c.args.services.list c.loop-i.i _ c.loop-i.invariant.1 c.if-n-i.false k _ c.target_wanted-w.ensures (sym c.is_wanted.ensures ∙ c.if-is_wanted.true))
-
-pub loop-i-preserved : goal.loop-i-preserved
-loop-i-preserved c =
-    let k : c.loop-i.i < length c.args.services.list = omega (arith, has-2 c) in
-    (omega arith, want-next blank_service (λ j. target_wanted c.args.rules.preference c.args.queries (same_class c.args.same) c.any_ech-sealed.result) c.args.services.count c.args.services.list c.loop-i.i _ c.loop-i.invariant.1 c.if-n-i.false k _ c.target_wanted-w.ensures (sym c.is_wanted.ensures ∙ c.if-is_wanted.false))
+pub loop-s-preserved : goal.loop-s-preserved
+loop-s-preserved c =
+    sym (want_more _ blank_service _ _ _ c.loop-s-test.true c.target_wanted-w.ensures (sym c.is_some.ensures ∙ c.if-is_some.false)) ∙ c.loop-s.invariant
 
 pub returns : goal.returns
 unfolding targets_wanted
-returns c =
-    let k : length c.args.services.list ≤ c.loop-i.i = omega (arith, has-3 c) in
-    rw (← c.any_ech-sealed.ensures) (want-all blank_service (λ j. target_wanted c.args.rules.preference c.args.queries (same_class c.args.same) c.any_ech-sealed.result) c.args.services.count c.args.services.list c.loop-i.i _ c.loop-i.invariant.1 k)
+returns c = rw (← c.any_ech-sealed.ensures) (sym (want_past _ _ _ c.loop-s-test.false) ∙ (c.loop-s.invariant ∙ ap (first_wanted _ 0) c.in_use-s-items.ensures))

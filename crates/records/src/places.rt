@@ -1,0 +1,27 @@
+// Which places of a table hold the same, by number: decisions ask this in place of the bytes.
+ghost use Rattle.std.specs.Prelude.{ℕ, Bool, ◌≡◌};
+ghost use Rattle.records.specs.Classes.{class_of};
+
+// A table whose places are compared. A place outside it is one that holds nothing.
+pub trait Places {
+    ghost alike: { Self → ℕ → ℕ → Bool };
+
+    fn same(&self, p: u8, q: u8) -> bool
+        ensures { result ≡ alike self.now p q };
+}
+
+// The class of a place of a table of n: the first place that is the same, and n for what is the same as a place outside.
+#[tactic(auto, unfolding(crate::specs::Classes::class_of), using(crate::proofs::Classes::first_here, crate::proofs::Classes::first_next, crate::proofs::Classes::first_end))]
+pub fn class_of<T: Places>(table: &T, n: u8, p: u8) -> u8
+    ensures { result ≡ class_of n (T.alike table.now) p }
+{
+    if table.same(n, p) {
+        return n;
+    }
+    for q in 0..n {
+        if table.same(q, p) {
+            return q;
+        }
+    }
+    n
+}
