@@ -64,7 +64,7 @@ fn read_retry(s: &[u8], id: u64, at: usize) -> Reading<Event>
     Ok((Event::EchRetry(id, b), end))
 }
 
-// What follows kind and id.
+// What follows kind and id. The kind is a number here, as `rest_at` has it: an enum would be no plainer, told apart twice.
 #[tactic(auto, unfolding(crate::specs::Events::rest_at))]
 fn read_rest(s: &[u8], kind: u64, id: u64, at: usize) -> Reading<Event>
     ensures { shown result ≡ rest_at s.now kind id at }

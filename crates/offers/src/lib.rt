@@ -44,6 +44,7 @@ pub struct Offer {
 }
 
 // The services of an HTTPS answer, and where the name and the ECH bytes of each stand: an empty span where there are none.
+// They stand side by side, as `located` says them: each has a table of its own in the machine.
 #[derive(Clone, Copy)]
 pub struct Located {
     pub services: Services,

@@ -1,10 +1,10 @@
 -- The reply to a body, by whether it was read and whether it is a call.
+use Rattle.input.specs.Input.{Verdict}
 use mathlib.Core.Path.{◌≡◌, refl, sym, ap, ◌∙◌}
 use Prim.Native.Nat.{ℕ}
 use mathlib.Core.Bool.{true, false, false≢true}
 use Rattle.std.specs.Prelude.{Result, Ok, Err}
 use Rattle.input.specs.declared.Input.{Input}
-use Rattle.input.specs.declared.Verdict.{Verdict}
 use Rattle.machine.specs.declared.grant.Turn.{Turn}
 use Rattle.bodies.specs.Told.{input_of}
 use Rattle.bodies.specs.declared.Event.{Event}

@@ -1,4 +1,5 @@
 -- What an event is answered and what it changes: the machine's two calls, and a body that is refused.
+use Rattle.input.specs.Input.{Verdict}
 use Rattle.std.specs.Prelude.{ℕ, Bool, true, false, cond, nat_lt, Result, Ok, Err}
 use Rattle.numbers.specs.declared.refusal.Refusal.{Refusal}
 use Rattle.pacing.specs.declared.id.IdGenerator.{IdGenerator}
@@ -10,9 +11,7 @@ use Rattle.state.specs.declared.changes.CallChange.TheVariants as call
 use Rattle.state.specs.declared.changes.InputChange.{InputChange}
 use Rattle.state.specs.declared.changes.InputChange.TheVariants as input
 use Rattle.state.specs.declared.changes.Round.{Round}
-use Rattle.input.specs.declared.Verdict.{Verdict}
 use Rattle.machine.specs.declared.calls.Beside.{Beside}
-use Rattle.machine.specs.declared.calls.Taken.TheVariants as taken
 use Rattle.machine.specs.declared.grant.Turn.{Turn}
 use Rattle.after.specs.After.{counted, ids_called}
 use Rattle.machine.specs.Steps.{called, fed, change_of, taken_of}
@@ -35,7 +34,7 @@ abbrev pub input_reply : Verdict → Reply
 input_reply v = record { answer = answer.Input (taken_of v); calls = 0; change = change.Fed (change_of v) }
 
 abbrev pub fault_reply : Refusal → Reply
-fault_reply e = record { answer = answer.Input (taken.Refused e); calls = 0; change = change.Nothing }
+fault_reply e = record { answer = answer.Input (Err e); calls = 0; change = change.Nothing }
 
 -- the event of a body; of a refused one, which has none, a call
 abbrev pub event_in : Result (Event × ℕ) Fault → Event

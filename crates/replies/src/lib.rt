@@ -79,7 +79,7 @@ pub fn fault_reply(e: Refusal) -> Reply
     ensures { result ≡ fault_reply e }
 {
     Reply {
-        answer: Answer::Input(Taken::Refused(e)),
+        answer: Answer::Input(Err(e)),
         calls: 0,
         change: Change::Nothing,
     }
