@@ -42,7 +42,12 @@ impl Row {
         if from < until {
             let class = "timer";
             let y = WAITS;
-            rt.print(Bar { class, from, until, y })?;
+            rt.print(Bar {
+                class,
+                from,
+                until,
+                y,
+            })?;
         }
         Ok(())
     }

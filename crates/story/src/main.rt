@@ -13,8 +13,7 @@ use reader::answer_at;
 use replay::frames::{FrameRead, configuration_at, frame_at};
 use replay::run::Replayed;
 use replay::tape::replay;
-use std::fmt;
-use std::io;
+use std::{fmt, io};
 use telling::lines::show;
 use telling::piece::{Since, Took};
 use wording::reply::{FaultPlace, Reply};
@@ -97,12 +96,18 @@ impl Told {
             last: self.last,
             moment,
         };
-        show(rt, format_args!("{when} host: {back}{}", Said { body, read }))?;
+        show(
+            rt,
+            format_args!("{when} host: {back}{}", Said { body, read }),
+        )?;
         let reply = Reply {
             bytes: answers,
             answer,
         };
-        show(rt, format_args!("{when} machine: {reply}{}", FaultPlace(read)))?;
+        show(
+            rt,
+            format_args!("{when} machine: {reply}{}", FaultPlace(read)),
+        )?;
         self.course.follow(read, answer, place, point);
         self.last = moment;
         self.place = after;
@@ -146,7 +151,10 @@ fn show_end(rt: &(impl Print + Alloc), r: Replayed) -> io::Result<()> {
         return Ok(());
     }
     let why = Refused(r.status as u64);
-    show(rt, format_args!("The tape stops at byte {}: {why}", r.place))
+    show(
+        rt,
+        format_args!("The tape stops at byte {}: {why}", r.place),
+    )
 }
 
 fn show_tape(
