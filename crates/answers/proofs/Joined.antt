@@ -1,5 +1,5 @@
 -- Fields one after the other, as the writer puts them.
---     numbers-few              how many bytes some numbers take at most
+--     numbers_few              how many bytes some numbers take at most
 --     numbers-next, -none      numbers in a loop: the first of those that are left, none left
 --     store_next and the like  the same of a loop that stores them
 --     parts, parts-put         numbers, bytes, numbers and bytes are the fields that they are; four writes are one
@@ -18,29 +18,24 @@ use Rattle.numbers.proofs.WriteLaws.{at-most-ten}
 use Rattle.answers.specs.Answers.{Field, number, raw, joined}
 use Rattle.answers.specs.Parts.{numbers_bytes, parts_bytes}
 
-pub numbers-few : (l : List ℕ) → length (numbers_bytes l) ≤ 10 * length l
+pub numbers_few : (l : List ℕ) → length (numbers_bytes l) ≤ 10 * length l
 unfolding numbers_bytes
-numbers-few [] = omega arith
-numbers-few (n ∷ l) = let i = numbers-few l in let t = at-most-ten n in simp length-append (omega arith)
+numbers_few [] = omega arith
+numbers_few (n ∷ l) = let i = numbers_few l in let t = at-most-ten n in simp length-append (omega arith)
 
 -- the first of the numbers that are left
 pub numbers-next : (l : List ℕ) (i : ℕ) → i < length l → numbers_bytes (drop i l) ≡ number_bytes (get_or l i 0) ++ numbers_bytes (drop (i + 1) l)
 unfolding numbers_bytes
 numbers-next l i h = rw (add-one) (ap numbers_bytes (drop-cons l i 0 h))
 
-pub numbers-none : (l : List ℕ) (i : ℕ) → length l ≤ i → numbers_bytes (drop i l) ≡ []
+pub numbers_none : (l : List ℕ) (i : ℕ) → length l ≤ i → numbers_bytes (drop i l) ≡ []
 unfolding numbers_bytes
-numbers-none l i h = ap numbers_bytes (drop_of_length-le l h)
+numbers_none l i h = ap numbers_bytes (drop_of_length-le l h)
 
 numbers-joined : (l : List ℕ) (fs : List Field) → joined (map number l ++ fs) ≡ numbers_bytes l ++ joined fs
 unfolding joined numbers_bytes
 numbers-joined [] fs = refl
 numbers-joined (n ∷ l) fs = ap (λ (x : List ℕ). number_bytes n ++ x) (numbers-joined l fs) ∙ sym (append_assoc (number_bytes n) (numbers_bytes l) (joined fs))
-
-pub numbers-fields : (l : List ℕ) → joined (map number l) ≡ numbers_bytes l
-unfolding joined numbers_bytes
-numbers-fields [] = refl
-numbers-fields (n ∷ l) = ap (λ (x : List ℕ). number_bytes n ++ x) (numbers-fields l)
 
 pub parts : (head body tail ech : List ℕ) → joined (map number head ++ (raw body ∷ (map number tail ++ (raw ech ∷ [])))) ≡ parts_bytes head body tail ech
 unfolding joined parts_bytes
@@ -50,8 +45,8 @@ parts head body tail ech =
 
 -- a loop over numbers: what is left of their bytes after one more
 module _ (l : List ℕ) (i : ℕ) (h : i < length l) where
-  pub length-next : length (numbers_bytes (drop i l)) ≡ length (number_bytes (get_or l i 0)) + length (numbers_bytes (drop (i + 1) l))
-  length-next = ap length (numbers-next l i h) ∙ length-append (number_bytes (get_or l i 0)) (numbers_bytes (drop (i + 1) l))
+  pub length_next : length (numbers_bytes (drop i l)) ≡ length (number_bytes (get_or l i 0)) + length (numbers_bytes (drop (i + 1) l))
+  length_next = ap length (numbers-next l i h) ∙ length-append (number_bytes (get_or l i 0)) (numbers_bytes (drop (i + 1) l))
 
   -- one more number stored
   pub store_next : (out : List ℕ) {out₁ target : List ℕ} (p : ℕ) {q all n : ℕ} → p + length (numbers_bytes (drop i l)) ≡ all → all ≤ n → length out ≡ n
@@ -60,7 +55,7 @@ module _ (l : List ℕ) (i : ℕ) (h : i < length l) where
   store_next out {out₁} {target} p {q} e f g t a w =
       let b = number_bytes (get_or l i 0) in
       let r = numbers_bytes (drop (i + 1) l) in
-      let k = length-next in
+      let k = length_next in
       let m : p + length b ≤ length out = omega arith in
       let z : p + length b ≡ q = let y = (room out p b m).0 ∙ sym a in cc in
       let u : p + length (b ++ r) ≤ length out = let x = length-append b r in omega arith in
@@ -70,15 +65,15 @@ module _ (l : List ℕ) (i : ℕ) (h : i < length l) where
   pub store_always : (out : List ℕ) (p : ℕ) {m all n : ℕ} → p + length (numbers_bytes (drop i l)) ≡ all → all ≤ n → length out ≡ n
       → refused m ≡ put_answer out p (number_bytes (get_or l i 0)) → ⊥
   store_always out p e f g a =
-      let k = length-next in
+      let k = length_next in
       let m : p + length (number_bytes (get_or l i 0)) ≤ length out = omega arith in
       let y = (room out p (number_bytes (get_or l i 0)) m).0 ∙ sym a in cc
 
 pub store_end : (l : List ℕ) (i : ℕ) → length l ≤ i → (out : List ℕ) {target : List ℕ} (p : ℕ) {all : ℕ} → p + length (numbers_bytes (drop i l)) ≡ all → all ≤ length out
     → put_bytes out p (numbers_bytes (drop i l)) ≡ target → (p ≡ all) × (out ≡ target)
 store_end l i h out p e f t =
-    let n = ap length (numbers-none l i h) in
-    (omega arith, (room out p [] (omega arith)).1 ∙ (rw (numbers-none l i h) at t))
+    let n = ap length (numbers_none l i h) in
+    (omega arith, (room out p [] (omega arith)).1 ∙ (rw (numbers_none l i h) at t))
 
 pub parts-length : (head body tail ech : List ℕ)
     → length (parts_bytes head body tail ech) ≡ length (numbers_bytes head) + length body + length (numbers_bytes tail) + length ech

@@ -1,17 +1,15 @@
 -- What the writer hands over is what the answer says.
---     name_taken, ech_taken     the part of a room that was lent
---     four-bytes, eight-bytes   an address, the highest byte first
---     query_put                 a query's parts are its fields' bytes; four_put, six_put, host_put: an attempt's
---     unsealed_put, sealed_put  the same with the ECH bytes of its place; host_said, rooms_said: with the names that its host comes from
---     waiting_put and the like  each output, and what became of an input
+--     name_taken, ech_taken           the part of a room that was lent; name_inside, ech_inside: it is one
+--     query_parts                     a query's parts are its fields' bytes; four_put, six_put, host_put: an attempt's
+--     four_bytes, eight_bytes         an address, the highest byte first
+--     unsealed_put, sealed_put        an attempt with the ECH bytes of its place; host_said, rooms_said: with the names that its host comes from
 use mathlib.Core.Path.{◌≡◌, refl, sym, ap, ◌∙◌}
 use mathlib.Core.Bool.{Bool, true, false, cond, ◌&&◌}
-use mathlib.Core.List.{List, [], ◌∷◌, ◌++◌, map}
-use Prim.Native.Nat.{ℕ, zero, suc, ◌+◌, ◌/◌, ◌≤◌, ◌<◌}
+use mathlib.Core.List.{List, [], ◌∷◌, ◌++◌}
+use Prim.Native.Nat.{ℕ, zero, suc, ◌+◌, ◌/◌, ◌≤◌}
 use native.Mathlib.Omega.{arith}
 use lib.ListN.{length, take, length-take}
-use lib.Dec.{eqb as nat_eq, ltb as nat_lt}
-use borrow.Author.Tests.{lt-ltb, le-ltb}
+use lib.Dec.{eqb as nat_eq}
 use Rattle.numbers.specs.Names.{dot, undotted}
 use Rattle.records.specs.Names.{name_bytes, ech_bytes, connect_name}
 use Rattle.records.specs.Numbers.{kind_number, rank_number}
@@ -22,15 +20,11 @@ use Rattle.records.specs.declared.names.EchPlace.TheVariants.{Without, At}
 use Rattle.records.specs.declared.endpoints.Target.{Target}
 use Rattle.records.specs.declared.endpoints.Target.TheVariants.{V4, V6, Named}
 use Rattle.records.specs.declared.endpoints.Endpoint.{Endpoint}
-use Rattle.machine.specs.declared.wish.Reason.{Reason}
-use Rattle.machine.specs.declared.grant.Table.{Table}
-use Rattle.machine.specs.declared.grant.Output.{Output}
-use Rattle.machine.specs.declared.grant.Output.TheVariants as output
-use Rattle.answers.specs.Answers.{Said, waiting, query, timer, attempt, cancel, succeeded, failed, full, input, number, raw, bit, reason_number, table_number, high_first, target_fields, joined, answer_bytes}
-use Rattle.answers.specs.Outputs.{said_target, said_endpoint, said_by}
-use Rattle.answers.specs.Parts.{numbers_bytes, parts_bytes, attempt_bytes}
+use Rattle.answers.specs.Answers.{query, attempt, number, raw, bit, high_first, target_fields, joined, answer_bytes}
+use Rattle.answers.specs.Outputs.{said_target, said_endpoint}
+use Rattle.answers.specs.Parts.{parts_bytes, attempt_bytes}
 use Rattle.std.specs.Int.{w32, w64, to_be_bytes}
-use Rattle.answers.proofs.Joined.{numbers-fields, parts}
+use Rattle.answers.proofs.Joined.{parts}
 
 taken : (k : ℕ) (x : List ℕ) → take (length (take k x)) x ≡ take k x
 taken zero x = refl
@@ -53,26 +47,22 @@ pub ech_inside : (ech : Ech) {n : ℕ} → n ≡ length (ech_bytes ech) → n �
 unfolding ech_bytes
 ech_inside ech e = let l = length-take ech.len ech.bytes in omega arith
 
-query_parts : (id : ℕ) (kind : Kind) (stale : Bool) (name : List ℕ)
-    → parts_bytes (1 ∷ id ∷ kind_number kind ∷ bit stale ∷ length name ∷ []) name [] [] ≡ answer_bytes (query id kind stale name)
+pub query_parts : (id : ℕ) (kind : Kind) (stale : Bool) (name : List ℕ)
+    → answer_bytes (query id kind stale name) ≡ parts_bytes (1 ∷ id ∷ kind_number kind ∷ bit stale ∷ length name ∷ []) name [] []
 unfolding answer_bytes joined
-query_parts id kind stale name = sym (parts (1 ∷ id ∷ kind_number kind ∷ bit stale ∷ length name ∷ []) name [] [])
-
-pub query_put : (id : ℕ) (kind : Kind) (stale : Bool) (name : Name) {k s n : ℕ} → k ≡ kind_number kind → s ≡ bit stale → n ≡ length (name_bytes name)
-    → parts_bytes (1 ∷ id ∷ k ∷ s ∷ n ∷ []) (take n name.bytes) [] [] ≡ answer_bytes (query id kind stale (name_bytes name))
-query_put id kind stale name e f g = rw (name_taken name g, e, f, g) (query_parts id kind stale (name_bytes name))
+query_parts id kind stale name = parts (1 ∷ id ∷ kind_number kind ∷ bit stale ∷ length name ∷ []) name [] []
 
 -- an address, the highest byte first
-pub four-bytes : (x : ℕ) → to_be_bytes w32 x ≡ high_first 4 x
+pub four_bytes : (x : ℕ) → to_be_bytes w32 x ≡ high_first 4 x
 unfolding high_first
-four-bytes x =
+four_bytes x =
     let a : x / 256 / 256 ≡ x / 65536 = omega arith in
     let b : x / 65536 / 256 ≡ x / 16777216 = omega arith in
     rw (a, b) refl
 
-pub eight-bytes : (x : ℕ) → to_be_bytes w64 x ≡ high_first 8 x
+pub eight_bytes : (x : ℕ) → to_be_bytes w64 x ≡ high_first 8 x
 unfolding high_first
-eight-bytes x =
+eight_bytes x =
     let a : x / 256 / 256 ≡ x / 65536 = omega arith in
     let b : x / 65536 / 256 ≡ x / 16777216 = omega arith in
     let d : x / 16777216 / 256 ≡ x / 4294967296 = omega arith in
@@ -86,7 +76,7 @@ module _ (id : ℕ) (retry : Bool) (e : Endpoint) (host : List ℕ) (sealed : �
       → parts_bytes (3 ∷ id ∷ b ∷ k ∷ 0 ∷ []) address (e.port ∷ sealed ∷ []) ech ≡ attempt_bytes id retry e host sealed ech
   unfolding attempt_bytes high_first
   four_put {x} t a =
-      let f = a ∙ four-bytes x in
+      let f = a ∙ four_bytes x in
       rw (again, ranked, f, t) (sym (parts (3 ∷ id ∷ bit retry ∷ rank_number e.rank ∷ 0 ∷ []) (high_first 4 x) (e.port ∷ sealed ∷ []) ech))
 
   pub six_put : {h l scope : ℕ} {address : List ℕ} → e.target ≡ V6 h l scope → address ≡ high_first 8 h ++ high_first 8 l
@@ -156,50 +146,3 @@ rooms_said id retry e origin own ech n m k f g h =
     ap (λ x. answer_bytes (attempt id retry (said_endpoint (connect_name x (take m own.bytes)) (take k ech.bytes) e))) (name_taken origin f)
     ∙ ap (λ x. answer_bytes (attempt id retry (said_endpoint (connect_name (name_bytes origin) x) (take k ech.bytes) e))) (name_taken own g)
     ∙ ap (λ x. answer_bytes (attempt id retry (said_endpoint (connect_name (name_bytes origin) (name_bytes own)) x e))) (ech_taken ech h)
-
--- answers that are numbers alone
-numbers-said : (l : List ℕ) (a : Said) → joined (map number l) ≡ answer_bytes a → numbers_bytes l ≡ answer_bytes a
-numbers-said l a e = sym (numbers-fields l) ∙ e
-
-module _ (origin name ech : List ℕ) {o : Output} where
-  pub waiting_put : o ≡ output.Waiting → numbers_bytes (0 ∷ []) ≡ answer_bytes (said_by origin name ech o)
-  unfolding answer_bytes
-  waiting_put t = rw t (numbers-said (0 ∷ []) waiting refl)
-
-  pub query-said : {id : ℕ} {kind : Kind} {stale : Bool} {p : ℕ} → o ≡ output.Query id kind stale p → answer_bytes (query id kind stale name) ≡ answer_bytes (said_by origin name ech o)
-  query-said t = rw t refl
-
-  pub timer_put : {ns : ℕ} → o ≡ output.Timer ns → numbers_bytes (2 ∷ ns ∷ []) ≡ answer_bytes (said_by origin name ech o)
-  unfolding answer_bytes
-  timer_put {ns} t = rw t (numbers-said (2 ∷ ns ∷ []) (timer ns) refl)
-
-  pub attempt-said : {id : ℕ} {retry : Bool} {e : Endpoint} → o ≡ output.Attempt id retry e
-      → answer_bytes (attempt id retry (said_endpoint (connect_name origin name) ech e)) ≡ answer_bytes (said_by origin name ech o)
-  attempt-said t = rw t refl
-
-  pub cancel_put : {id : ℕ} → o ≡ output.Cancel id → numbers_bytes (4 ∷ id ∷ []) ≡ answer_bytes (said_by origin name ech o)
-  unfolding answer_bytes
-  cancel_put {id} t = rw t (numbers-said (4 ∷ id ∷ []) (cancel id) refl)
-
-  pub succeeded_put : o ≡ output.Succeeded → numbers_bytes (5 ∷ []) ≡ answer_bytes (said_by origin name ech o)
-  unfolding answer_bytes
-  succeeded_put t = rw t (numbers-said (5 ∷ []) succeeded refl)
-
-  pub failed_put : {r : Reason} {n : ℕ} → o ≡ output.Failed r → n ≡ reason_number r → numbers_bytes (6 ∷ n ∷ []) ≡ answer_bytes (said_by origin name ech o)
-  unfolding answer_bytes
-  failed_put {r} t e = rw (t, e) (numbers-said (6 ∷ reason_number r ∷ []) (failed r) refl)
-
-  pub full_put : {x : Table} {n : ℕ} → o ≡ output.Full x → n ≡ table_number x → numbers_bytes (7 ∷ n ∷ []) ≡ answer_bytes (said_by origin name ech o)
-  unfolding answer_bytes
-  full_put {x} t e = rw (t, e) (numbers-said (7 ∷ table_number x ∷ []) (full x) refl)
-
-pub taken_put : {n m : ℕ} → n ≡ m → numbers_bytes (8 ∷ n ∷ []) ≡ answer_bytes (input m)
-unfolding answer_bytes
-taken_put {n} {m} e = rw e (numbers-said (8 ∷ m ∷ []) (input m) refl)
-
--- a place, if it is one of the table
-pub in_table : (size : ℕ) {p q : ℕ} → p ≡ q → p < size → p ≡ cond (nat_lt q size) q 0
-in_table size {p} {q} e h = simp (lt-ltb q size (omega arith)) e
-
-pub past_table : (size : ℕ) {p q : ℕ} → p ≡ q → size ≤ p → 0 ≡ cond (nat_lt q size) q 0
-past_table size {p} {q} e h = simp (le-ltb q size (omega arith))

@@ -18,6 +18,7 @@ use records::names::{Ech, EchPlace, Name, connect_name, name_len};
 use records::queries::{Kind, kind_number};
 
 // How many bytes some numbers take.
+#[tactic(auto, using(crate::proofs::Joined::length_next, crate::proofs::Joined::numbers_few, crate::proofs::Joined::numbers_none))]
 fn numbers_len(numbers: &[u64]) -> usize
     requires { length numbers.now ≤ 8 }
     ensures { result ≡ length (numbers_bytes numbers.now) }
@@ -43,6 +44,7 @@ fn write_numbers(out: &mut [u8], at: usize, numbers: &[u64]) -> Result<usize, Re
 }
 
 // Writes numbers, or nothing where they do not fit.
+#[tactic(auto, unfolding(numbers::specs::Put::put_answer, numbers::specs::Put::put_bytes))]
 fn put_numbers(out: &mut [u8], at: usize, numbers: &[u64]) -> Result<usize, Refusal>
     requires { length numbers.now ≤ 8 }
     ensures answer { wrote_shown result ≡ put_answer out.old at (numbers_bytes numbers.now) }
@@ -83,19 +85,18 @@ fn put_parts(
 fn bit(b: bool) -> u64
     ensures { result ≡ bit b }
 {
-    if b { 1 } else { 0 }
+    u64::from(b)
 }
 
 // The sixteen bytes of an IPv6 address.
+#[tactic(auto, using(crate::proofs::Puts::eight_bytes))]
 fn sixteen_bytes(hi: u64, lo: u64) -> [u8; 16]
     ensures { result ≡ high_first 8 hi ++ high_first 8 lo }
 {
-    let h = hi.to_be_bytes();
-    let l = lo.to_be_bytes();
-    [
-        h[0], h[1], h[2], h[3], h[4], h[5], h[6], h[7], l[0], l[1], l[2], l[3], l[4], l[5], l[6],
-        l[7],
-    ]
+    let mut bytes = [0; 16];
+    bytes[..8].copy_from_slice(&hi.to_be_bytes());
+    bytes[8..].copy_from_slice(&lo.to_be_bytes());
+    bytes
 }
 
 // How many ECH bytes there are.
@@ -106,7 +107,7 @@ fn ech_len(ech: Ech) -> usize
     ech.len.min(512)
 }
 
-#[tactic(auto, using(crate::proofs::Puts::name_inside))]
+#[tactic(auto, using(crate::proofs::Puts::name_inside, crate::proofs::Puts::name_taken, crate::proofs::Puts::query_parts))]
 fn put_query(
     out: &mut [u8],
     at: usize,
@@ -135,22 +136,30 @@ fn table_number(t: Table) -> u64
     t as u64
 }
 
+// An attempt as an output has it.
+#[derive(Clone, Copy)]
+struct Attempt {
+    id: u64,
+    retry: bool,
+    endpoint: Endpoint,
+}
+
 // An attempt to an endpoint with this host, and with ECH bytes after their number.
 fn put_target(
     out: &mut [u8],
     at: usize,
-    id: u64,
-    retry: bool,
-    e: Endpoint,
+    a: Attempt,
     host: &[u8],
     sealed: u64,
     ech: &[u8],
 ) -> Result<usize, Refusal>
     requires { (length host.now ≤ 512) × (length ech.now ≤ 512) }
-    ensures answer { wrote_shown result ≡ put_answer out.old at (attempt_bytes id retry e host.now sealed ech.now) }
-    ensures bytes { out.new ≡ put_bytes out.old at (attempt_bytes id retry e host.now sealed ech.now) }
+    ensures answer { wrote_shown result ≡ put_answer out.old at (attempt_bytes a.id a.retry a.endpoint host.now sealed ech.now) }
+    ensures bytes { out.new ≡ put_bytes out.old at (attempt_bytes a.id a.retry a.endpoint host.now sealed ech.now) }
 {
-    let again = bit(retry);
+    let id = a.id;
+    let again = bit(a.retry);
+    let e = a.endpoint;
     let rank = rank_number(e.rank) as u64;
     let port = e.port as u64;
     match e.target {
@@ -179,21 +188,19 @@ fn put_target(
 fn put_endpoint(
     out: &mut [u8],
     at: usize,
-    id: u64,
-    retry: bool,
-    e: Endpoint,
+    a: Attempt,
     host: &[u8],
     ech: &[u8],
 ) -> Result<usize, Refusal>
     requires { (length host.now ≤ 512) × (length ech.now ≤ 512) }
-    ensures answer { wrote_shown result ≡ put_answer out.old at (answer_bytes (attempt id retry (said_endpoint host.now ech.now e))) }
-    ensures bytes { out.new ≡ put_bytes out.old at (answer_bytes (attempt id retry (said_endpoint host.now ech.now e))) }
+    ensures answer { wrote_shown result ≡ put_answer out.old at (answer_bytes (attempt a.id a.retry (said_endpoint host.now ech.now a.endpoint))) }
+    ensures bytes { out.new ≡ put_bytes out.old at (answer_bytes (attempt a.id a.retry (said_endpoint host.now ech.now a.endpoint))) }
 {
-    match e.ech {
-        EchPlace::Without => put_target(out, at, id, retry, e, host, 0, &[]),
+    match a.endpoint.ech {
+        EchPlace::Without => put_target(out, at, a, host, 0, &[]),
         EchPlace::At(_) => {
             let sealed = ech.len() + 1;
-            put_target(out, at, id, retry, e, host, sealed as u64, ech)
+            put_target(out, at, a, host, sealed as u64, ech)
         }
     }
 }
@@ -203,24 +210,23 @@ fn put_endpoint(
 fn put_attempt(
     out: &mut [u8],
     at: usize,
-    id: u64,
-    retry: bool,
-    e: Endpoint,
+    a: Attempt,
     origin: Name,
     own: Name,
     ech: Ech,
 ) -> Result<usize, Refusal>
-    ensures answer { wrote_shown result ≡ put_answer out.old at (answer_bytes (attempt id retry (said_endpoint (connect_name (name_bytes origin) (name_bytes own)) (ech_bytes ech) e))) }
-    ensures bytes { out.new ≡ put_bytes out.old at (answer_bytes (attempt id retry (said_endpoint (connect_name (name_bytes origin) (name_bytes own)) (ech_bytes ech) e))) }
+    ensures answer { wrote_shown result ≡ put_answer out.old at (answer_bytes (attempt a.id a.retry (said_endpoint (connect_name (name_bytes origin) (name_bytes own)) (ech_bytes ech) a.endpoint))) }
+    ensures bytes { out.new ≡ put_bytes out.old at (answer_bytes (attempt a.id a.retry (said_endpoint (connect_name (name_bytes origin) (name_bytes own)) (ech_bytes ech) a.endpoint))) }
 {
     let n = name_len(origin);
     let m = name_len(own);
     let k = ech_len(ech);
     let host = connect_name(&origin.bytes[..n], &own.bytes[..m]);
-    put_endpoint(out, at, id, retry, e, host, &ech.bytes[..k])
+    put_endpoint(out, at, a, host, &ech.bytes[..k])
 }
 
 // The answer to a call. `origin` is the origin's name, `name` and `ech` are what lies at the places that the output has.
+#[tactic(auto, unfolding(crate::specs::Answers::answer_bytes, crate::specs::Answers::joined, crate::specs::Parts::numbers_bytes))]
 pub fn put_output(
     out: &mut [u8],
     at: usize,
@@ -236,7 +242,14 @@ pub fn put_output(
         Output::Waiting => put_numbers(out, at, &[0]),
         Output::Query(id, kind, stale, _) => put_query(out, at, id, kind, stale, name),
         Output::Timer(ns) => put_numbers(out, at, &[2, ns]),
-        Output::Attempt(id, retry, e) => put_attempt(out, at, id, retry, e, origin, name, ech),
+        Output::Attempt(id, retry, endpoint) => {
+            let a = Attempt {
+                id,
+                retry,
+                endpoint,
+            };
+            put_attempt(out, at, a, origin, name, ech)
+        }
         Output::Cancel(id) => put_numbers(out, at, &[4, id]),
         Output::Succeeded => put_numbers(out, at, &[5]),
         Output::Failed(r) => put_numbers(out, at, &[6, reason_number(r)]),
@@ -255,6 +268,7 @@ fn taken_number(t: Taken) -> u8
 }
 
 // The answer to an input.
+#[tactic(auto, unfolding(crate::specs::Answers::answer_bytes, crate::specs::Answers::joined, crate::specs::Parts::numbers_bytes))]
 pub fn put_taken(out: &mut [u8], at: usize, t: Taken) -> Result<usize, Refusal>
     ensures answer { wrote_shown result ≡ put_answer out.old at (answer_bytes (input (taken_number t))) }
     ensures bytes { out.new ≡ put_bytes out.old at (answer_bytes (input (taken_number t))) }

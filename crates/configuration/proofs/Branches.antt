@@ -1,6 +1,6 @@
 -- What follows a field that decides, by what it is.
 --     is-four, is-six, is_none, by_name, by-literal     a host's kind
---     no-multiplier, some-multiplier                    the multiplier, which isn't 0
+--     some-multiplier                                   the multiplier, which isn't 0
 use mathlib.Core.Path.{◌≡◌, ap, ◌∙◌}
 use mathlib.Core.Bool.{cond}
 use mathlib.Core.List.{List}
@@ -41,10 +41,6 @@ module _ (s : List ℕ) (kind p : ℕ) where
     by-literal n = simp (ne_eqb kind 0 n)
 
 module _ (s : List ℕ) (p v q : ℕ) (e : got v q ≡ at_most 4294967295 out_of_range (read_number s p)) where
-  pub no-multiplier : v ≡ 0 → fault out_of_range p ≡ multiplier_at s p
-  unfolding multiplier_at
-  no-multiplier h = simp (eq-eqb v 0 h) at (went_on (λ v end. cond (nat_eq v 0) (fault out_of_range p) (read v end)) v q (on-field p e))
-
   pub some-multiplier : (v ≡ 0 → ⊥) → read v q ≡ multiplier_at s p
   unfolding multiplier_at
   some-multiplier h = simp (ne_eqb v 0 h) at (went_on (λ v end. cond (nat_eq v 0) (fault out_of_range p) (read v end)) v q (on-field p e))

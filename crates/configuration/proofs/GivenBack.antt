@@ -2,7 +2,7 @@
 --     host-back, alt-back, front-back, back-back     a host, an alternative service, what comes before these and after them
 --     fields_back             the fields that every edition has: rules, timing, alternative services and names are those that were given
 --     edition-back            a body of any edition
---     given_back              document 01's
+--     given_back              this edition's
 use mathlib.Core.Path.{◌≡◌, refl, sym, ap, subst, ◌∙◌}
 use mathlib.Core.Bool.{Bool, true, false, cond}
 use mathlib.Core.List.{List, [], ◌∷◌, ◌++◌}
@@ -293,7 +293,7 @@ pub record Held (c : Given) (s : List ℕ) : Type 0 where
   pub reads : read setup (length s) ≡ setup_at s
   pub right : SetupRight s c setup
 
--- document 01's edition
+-- this edition
 pub given_back : (c : Given) → Fits c → Held c (given_bytes c)
 unfolding setup_at
 given_back c ok =

@@ -1,5 +1,5 @@
--- The configuration body, rules B.1 and B.8 (document 01, "Numbers and bodies"): its fields in order, with names and alternative services
--- where they stand. A later edition adds its fields after the mode.
+-- The configuration body, rules B.1 and B.8: its fields in order, with names and alternative services where they stand. A later edition
+-- adds its fields after the mode.
 use Rattle.std.specs.Prelude.{cond, ℕ, ◌%◌, List, nat_lt, nat_le, nat_eq, length}
 use Rattle.numbers.specs.Fields.{at_most, name_at}
 use Rattle.numbers.specs.Names.{longest_name, longest_origin}
@@ -128,7 +128,7 @@ fields_at s = next (front s) (λ f q. next (counted 4 (alt s) s q) (λ l q. rest
 unfoldable pub edition_at : {A : Type 0} → (added : List ℕ → Setup → ℕ → Reading A) → List ℕ → Reading A
 edition_at added s = next (fields_at s) (λ c q. next (added s c q) (λ v end. cond (nat_lt end (length s)) (fault trailing end) (read v end)))
 
--- document 01's edition adds none
+-- this edition adds none
 abbrev pub none_added : List ℕ → Setup → ℕ → Reading Setup
 none_added s c p = read c p
 

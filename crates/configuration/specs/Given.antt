@@ -26,7 +26,7 @@ pub data GivenHost : Type 0 where
   six : ℕ → ℕ → GivenHost
   absent : GivenHost
 
--- port and version as document 01 numbers them
+-- port and version by their numbers in rules B.6 and B.8
 pub record GivenAlt : Type 0 where
   pub host : GivenHost
   pub port : ℕ

@@ -119,6 +119,8 @@ fn read_literal(s: &[u8], kind: u64, at: usize) -> Reading<HostSpan>
     }
 }
 
+// This and the next differ in the last kind and in the reader of the name. One function over that reader is no plainer: its clause
+// would have to hold for every limit of a name.
 #[tactic(auto, unfolding(crate::specs::Configuration::origin_at, crate::specs::Configuration::host_by))]
 fn read_origin_host(s: &[u8], at: usize) -> Reading<HostSpan>
     ensures { shown result ≡ origin_at s.now at }
@@ -431,24 +433,21 @@ fn no_alternatives() -> Alternatives
 fn fill_alts(s: &[u8], l: Items) -> Alternatives
     ensures { result ≡ alts_in s.now l }
 {
-    let n = l.count;
-    let none = no_alternatives();
-    if 4 < n {
-        return none;
+    let mut out = no_alternatives();
+    if 4 < l.count {
+        return out;
     }
-    let mut alts = none.alts;
-    let mut names = none.names;
     let mut p = l.first;
-    for i in 0..n {
+    for i in 0..l.count {
         let Ok((a, next)) = read_alt(s, p) else {
             return no_alternatives();
         };
-        alts.list[i] = alt_of(a);
-        names.list[i] = host_name(s, a.host);
+        out.alts.list[i] = alt_of(a);
+        out.names.list[i] = host_name(s, a.host);
         p = next;
     }
-    alts.count = n;
-    Alternatives { alts, names }
+    out.alts.count = l.count;
+    out
 }
 
 // The origin's name, then those of the alternative services.
@@ -467,6 +466,7 @@ fn names_with(origin: Name, own: AltNames) -> Names
 }
 
 // The alternative services and the names of a sound configuration.
+#[tactic(auto, using(crate::proofs::Rooms::configured))]
 pub fn fill_configuration(s: &[u8], c: Setup) -> Configured
     ensures { result ≡ configured_in s.now c }
 {

@@ -180,10 +180,7 @@ fn service_of(s: &[u8], o: Offer) -> Service
 fn span_of(e: Option<Span>) -> Span
     ensures { result ≡ span_of e }
 {
-    match e {
-        None => Span { start: 0, len: 0 },
-        Some(b) => b,
-    }
+    e.unwrap_or(Span { start: 0, len: 0 })
 }
 
 #[tactic(auto, unfolding(crate::specs::Offers::no_located))]
@@ -222,24 +219,16 @@ pub fn locate_offers(s: &[u8], l: Items) -> Located
 fn names_in(s: &[u8], l: [Span; 4]) -> TargetNames
     ensures { result ≡ names_in s.now l }
 {
-    let first = name_of(s, l[0]);
-    let second = name_of(s, l[1]);
-    let third = name_of(s, l[2]);
-    let fourth = name_of(s, l[3]);
     TargetNames {
-        list: [first, second, third, fourth],
+        list: l.map(|b| name_of(s, b)),
     }
 }
 
 fn echs_in(s: &[u8], l: [Span; 4]) -> TargetEchs
     ensures { result ≡ echs_in s.now l }
 {
-    let first = ech_of(s, l[0]);
-    let second = ech_of(s, l[1]);
-    let third = ech_of(s, l[2]);
-    let fourth = ech_of(s, l[3]);
     TargetEchs {
-        list: [first, second, third, fourth],
+        list: l.map(|b| ech_of(s, b)),
     }
 }
 
@@ -248,11 +237,9 @@ fn echs_in(s: &[u8], l: [Span; 4]) -> TargetEchs
 pub fn in_rooms(s: &[u8], o: Located) -> Offered
     ensures { result ≡ in_rooms s.now o }
 {
-    let names = names_in(s, o.names);
-    let echs = echs_in(s, o.echs);
     Offered {
         services: o.services,
-        names,
-        echs,
+        names: names_in(s, o.names),
+        echs: echs_in(s, o.echs),
     }
 }

@@ -1,5 +1,4 @@
 -- Laws that several proofs, and the crates above, cite.
-pub mod Answering
 pub mod Checking
 pub mod Framed
 pub mod Settled

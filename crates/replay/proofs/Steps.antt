@@ -72,13 +72,9 @@ use Rattle.replies.specs.declared.Reply.{Reply}
 use Rattle.replies.specs.declared.Touched.{Touched}
 use Rattle.replies.specs.declared.Touched.TheVariants as touched
 use Rattle.replies.specs.Replies.{reply_by, reply_on, event_in, after, ids_after, touched_of}
-use Rattle.replay.specs.Saying.{answer_name, answer_ech, said_to}
+use Rattle.replay.specs.Race.{Sized, Kept, Proper, query_in, attempt_in}
+use Rattle.replay.specs.Saying.{answer_name, answer_ech, said_to, said_in}
 use Rattle.replay.specs.Replay.{Step, step_by, step_of}
-use Rattle.replay.proofs.Wished.{Sized}
-
--- what is said with the machine's tables
-abbrev pub said_in : Machine → Answer → Said
-said_in m a = said_to (name_bytes_at m.names 0) (name_bytes_at m.names (answer_name a)) (ech_bytes_at m.echs (answer_ech a)) a
 
 -- the step that a reply makes
 abbrev pub step_in : Machine → Reply → Beside → Step
@@ -113,12 +109,6 @@ parts r t l ids q d s a retries n e =
 abbrev keeps : Machine → Change → Queries → Answers → Services → Attempts → Machine
 keeps m c q d s a = parts m.rules m.timing m.alts (ids_after m.ids c) q d s a m.retries m.names m.echs
 
-abbrev query_in : Queries → ℕ → Query → ℕ → Queries
-query_in q p x n = record { count = n; list = set q.list p x }
-
-abbrev attempt_in : Attempts → ℕ → Attempt → ℕ → Attempts
-attempt_in a p x n = record { count = n; list = set a.list p x }
-
 abbrev pub parts_by : Touched → Machine → Change → Beside → Machine
 parts_by touched.Nothing m c b = keeps m c m.queries m.answers m.services m.attempts
 parts_by (touched.Asked p q n) m c b = keeps m c (query_in m.queries p q n) m.answers m.services m.attempts
@@ -132,17 +122,6 @@ parts_by (touched.Retried p a n r) m c b =
 
 abbrev pub touched_in : Machine → Change → Touched
 touched_in m c = touched_of m.queries.count m.attempts.count c
-
--- a change that has services gone or stored has its record inside the table
-abbrev pub Proper : Change → Type 0
-Proper change.Nothing = Unit {0}
-Proper (change.Called c) = Unit {0}
-Proper (change.Fed input.Nothing) = Unit {0}
-Proper (change.Fed (input.Ends p a)) = Unit {0}
-Proper (change.Fed (input.Retries p a r)) = Unit {0}
-Proper (change.Fed (input.Holds p q)) = Unit {0}
-Proper (change.Fed (input.Empties p q)) = p < 16
-Proper (change.Fed (input.Offers p q round)) = p < 16
 
 kept-retries : (t : Retries) (r p : ℕ) → 32 ≤ p → put_retry t r p ≡ t
 unfolding put_retry
@@ -165,6 +144,10 @@ parts-after m (change.Fed (input.Retries p a r)) b s = ⊎_elim (λ (h : p < 32)
 parts-after m (change.Fed (input.Holds p q)) b s = ⊎_elim (λ (h : p < 16). rw (lt-ltb p 16 h)) (λ (h : 16 ≤ p). rw (le-ltb p 16 h)) (less-or-not p 16)
 parts-after m (change.Fed (input.Empties p q)) b s = rw (lt-ltb p 16 s)
 parts-after m (change.Fed (input.Offers p q round)) b s = rw (lt-ltb p 16 s)
+
+-- a change as it is stored
+pub stored-by : (m : Machine) (c : Change) (b : Beside) {x t : Touched} → Proper c → x ≡ touched_in m c → x ≡ t → parts_by t m c b ≡ after m c b
+stored-by m c b s e f = ap (λ u. parts_by u m c b) (sym f ∙ e) ∙ sym (parts-after m c b s)
 
 -- what is stored as an element lies inside its table
 abbrev pub Within : Touched → Type 0
@@ -274,6 +257,14 @@ pub step-made : (m : Machine) (alike : classes.Alike) (now : ℕ) (whole body : 
 unfolding judged
 step-made m alike now whole body r e reply c w h v k =
     rw (w, v, k, turn-same m now alike c) (sym (body-step m now body r h))
+
+-- the same of a race, whose classes are those of its tables
+pub race-proper : (m : Machine) (alike : classes.Alike) (now : ℕ) (r : EventRead) {x : Reply} → Kept m alike → x ≡ reply_by (turn_of m now) (judged m now) r → Proper x.change
+unfolding judged
+race-proper m alike now r k d = reply-proper m alike now r k.sized (d ∙ ap (λ t. reply_by t (verdict_for m now) r) (sym (turn-same m now alike k.same)))
+
+pub race-step : (m : Machine) (now : ℕ) (body : List ℕ) (r : EventRead) {x : Reply} → event_shown r ≡ event_at body → x ≡ reply_by (turn_of m now) (judged m now) r → step_of m now body ≡ step_in m x (beside_of body (event_in r))
+race-step m now body r h d = body-step m now body r h ∙ ap (λ x. step_in m x (beside_of body (event_in r))) (sym d)
 
 -- what is written is what is said
 name-place : (o : Output) → output_name o < 14

@@ -3,7 +3,7 @@
 --     still_alike      the classes stay where there were no bytes at the places of the round and none came
 use Prim.Native.Nat.{ℕ, suc, ◌+◌, ◌<◌}
 use native.Mathlib.Omega.{arith}
-use mathlib.Core.Path.{◌≡◌, sym, ap, ◌∙◌}
+use mathlib.Core.Path.{◌≡◌, refl, sym, ap, ◌∙◌}
 use mathlib.Core.Bool.{true, ◌&&◌}
 use mathlib.Core.List.{List, [], ◌∷◌, map}
 use lib.Dec.{eqb as nat_eq}
@@ -52,7 +52,7 @@ four-set t f a b c d =
     rw (one, two, three)
 
 -- what is made of each of four, stored one after the other
-each-stored : {A B : Type 0} (g : A → B) (z : A) (t : List B) (f : ℕ) (l : List A) → length l ≡ 4 → four t f (g (get_or l 0 z)) (g (get_or l 1 z)) (g (get_or l 2 z)) (g (get_or l 3 z)) ≡ sets t f (map g l)
+pub each-stored : {A B : Type 0} (g : A → B) (z : A) (t : List B) (f : ℕ) (l : List A) → length l ≡ 4 → four t f (g (get_or l 0 z)) (g (get_or l 1 z)) (g (get_or l 2 z)) (g (get_or l 3 z)) ≡ sets t f (map g l)
 each-stored g z t f l h = four-set t f _ _ _ _ ∙ ap (sets t f) (each-of-four g z l h)
 
 module _ (s : List ℕ) (e : Event) {o : Located} (h : o ≡ located_of s e) where
@@ -108,3 +108,28 @@ module _ (s : List ℕ) (e : Event) {o : Located} (h : o ≡ located_of s e) whe
       let echs = no-echs (eqb-true _ 0 empty.1) y in
       rw (u, w, names.0, names.1, names.2, names.3, echs.0, echs.1, echs.2, echs.3)
       (classes-kept _ _ _ _ (names-blank t (first_name r) (names-inside r) (names-bare t (first_name r) lies.0)) (echs-blank x (first_ech r) (echs-inside r) (echs-bare x (first_ech r) lies.1)))
+
+  -- the same for what `names_in` and `echs_in` make of them
+  names-four : (t : Names) (r : Round) → record { list = four t.list (first_name r) (name_of 0) (name_of 1) (name_of 2) (name_of 3) } ≡ put_names t r (names_in s o.names)
+  unfolding put_names names_in
+  names-four t r = ap (λ l. record { list = l }) (each-stored (λ b. name_in (kept 253 s b)) no_span t.list (first_name r) o.names (ap (λ x. length x.names) h ∙ four-names s e))
+
+  echs-four : (t : Echs) (r : Round) → record { list = four t.list (first_ech r) (ech_of 0) (ech_of 1) (ech_of 2) (ech_of 3) } ≡ put_echs t r (echs_in s o.echs)
+  unfolding put_echs echs_in
+  echs-four t r = ap (λ l. record { list = l }) (each-stored (λ b. ech_in (kept 512 s b)) no_span t.list (first_ech r) o.echs (ap (λ x. length x.echs) h ∙ four-echs s e))
+
+  pub still_kept : (t : Names) (x : Echs) (r : Round) → bare t x r && nat_eq o.services.count 0 ≡ true → alike_of (put_names t r (names_in s o.names)) (put_echs x r (echs_in s o.echs)) ≡ alike_of t x
+  still_kept t x r test = rw (← names-four t r, ← echs-four x r) (still_alike t x r refl (refl, refl, refl, refl) refl (refl, refl, refl, refl) test)
+
+  -- what came beside the event
+  pub services-came : o.services ≡ (beside_of s e).services
+  unfolding beside_of in_rooms
+  services-came = ap (λ x. x.services) h ∙ sym (ap (λ x. x.services) (offered-rooms s e))
+
+  pub names-came : names_in s o.names ≡ (beside_of s e).names
+  unfolding beside_of in_rooms
+  names-came = ap (λ x. names_in s x.names) h ∙ sym (ap (λ x. x.names) (offered-rooms s e))
+
+  pub echs-came : echs_in s o.echs ≡ (beside_of s e).echs
+  unfolding beside_of in_rooms
+  echs-came = ap (λ x. echs_in s x.echs) h ∙ sym (ap (λ x. x.echs) (offered-rooms s e))

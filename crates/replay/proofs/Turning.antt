@@ -41,7 +41,8 @@ use Rattle.replay.specs.Frames.{Frame, frame_at}
 use Rattle.replay.specs.Replay.{Step, step_of, Run, ended, ahead, run, run_from}
 use Rattle.replay.proofs.Framed.{frame-lies}
 use Rattle.replies.specs.Replies.{after, ids_after}
-use Rattle.replay.proofs.Steps.{few-calls, parts, parts_by, touched_in, Proper, parts-after}
+use Rattle.replay.specs.Race.{Proper}
+use Rattle.replay.proofs.Steps.{few-calls, parts, parts_by, touched_in, parts-after}
 
 -- `rest`, behind what is written and counted, is `all`
 pub record Onto (out₀ out : List ℕ) (written calls : ℕ) (rest all : Run) : Type 0 where
@@ -93,6 +94,10 @@ end_of : put.Placed → ℕ
 end_of (put.placed n) = n
 end_of (put.refused n) = 0
 
+refusal_of : put.Placed → ℕ
+refusal_of (put.placed n) = 0
+refusal_of (put.refused n) = n
+
 module _ (out : List ℕ) (at : ℕ) (bs : List ℕ) where
   did-fit : {end : ℕ} → put.placed end ≡ put_answer out at bs → (at + length bs ≤ length out) × (end ≡ at + length bs)
   unfolding tag end_of
@@ -105,6 +110,14 @@ module _ (out : List ℕ) (at : ℕ) (bs : List ℕ) where
   unfolding tag
   did-not {n} e =
       ⊎_elim (λ (h : length out < at + length bs). (h, sym (no_room_lem out at bs h).1))
+      (λ (h : at + length bs ≤ length out). absurd (let z : ◌≡◌ {A = ℕ} 1 0 = ap tag (e ∙ sym (room out at bs h).0) in omega arith))
+      (less-or-not (length out) (at + length bs))
+
+  -- the only refusal of a write
+  pub no-fit : {n : ℕ} → put.refused n ≡ put_answer out at bs → n ≡ 13
+  unfolding tag refusal_of
+  no-fit {n} e =
+      ⊎_elim (λ (h : length out < at + length bs). ap refusal_of (e ∙ sym (no_room_lem out at bs h).0))
       (λ (h : at + length bs ≤ length out). absurd (let z : ◌≡◌ {A = ℕ} 1 0 = ap tag (e ∙ sym (room out at bs h).0) in omega arith))
       (less-or-not (length out) (at + length bs))
 

@@ -35,11 +35,9 @@ use Rattle.machine.specs.declared.wish.Found.{Found}
 use Rattle.machine.specs.declared.wish.Found.TheVariants as found
 use Rattle.machine.specs.declared.wish.Wish.{Wish}
 use Rattle.machine.specs.declared.wish.Wish.TheVariants as wish
+use Rattle.replay.specs.Race.{Sized}
 
 -- The sizes of the two tables
-
-abbrev pub Sized : Queries → Attempts → Type 0
-Sized q a = (length q.list ≡ 16) × (length a.list ≡ 32)
 
 pub made-sized : (r : Rules) (t : Timing) (l : Alts) (n : Names) (m : Machine) → m ≡ made r t l n → Sized m.queries m.attempts
 unfolding made no_queries no_attempts

@@ -1,4 +1,5 @@
 pub mod Frames
 pub mod Saying
 pub mod Replay
+pub mod Race
 pub mod Check

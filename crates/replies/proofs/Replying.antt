@@ -2,15 +2,14 @@
 use mathlib.Core.Path.{◌≡◌, refl, sym, ap, ◌∙◌}
 use Prim.Native.Nat.{ℕ}
 use mathlib.Core.Bool.{true, false, false≢true}
+use Rattle.std.specs.Prelude.{Result, Ok, Err}
 use Rattle.input.specs.declared.Input.{Input}
 use Rattle.input.specs.declared.Verdict.{Verdict}
 use Rattle.machine.specs.declared.grant.Turn.{Turn}
 use Rattle.bodies.specs.Told.{input_of}
 use Rattle.bodies.specs.declared.Event.{Event}
 use Rattle.bodies.specs.declared.Event.TheVariants as event
-use Rattle.bodies.specs.declared.EventRead.{EventRead}
-use Rattle.bodies.specs.declared.EventRead.TheVariants as read
-use Rattle.numbers.specs.declared.refusal.Refusal.{Refusal}
+use Rattle.parts.specs.declared.reading.Fault.{Fault}
 use Rattle.replies.specs.declared.Reply.{Reply}
 use Rattle.replies.specs.Replies.{call_reply, input_reply, fault_reply, event_in, reply_on, is_call, reply_by}
 
@@ -30,16 +29,16 @@ input-on turn verdict (event.Success id) h = refl
 input-on turn verdict (event.Failure id) h = refl
 input-on turn verdict (event.EchRetry id b) h = refl
 
-module _ (turn : Turn) (verdict : Input → Verdict) {r : EventRead} where
-  pub refused-by : {x : Reply} {e : Refusal} {p : ℕ} → r ≡ read.Refused e p → x ≡ fault_reply e → x ≡ reply_by turn verdict r
+module _ (turn : Turn) (verdict : Input → Verdict) {r : Result (Event × ℕ) Fault} where
+  pub refused-by : {x : Reply} {f : Fault} → r ≡ Err f → x ≡ fault_reply f.refusal → x ≡ reply_by turn verdict r
   refused-by h f = f ∙ sym (ap (reply_by turn verdict) h)
 
   -- the event that was read
-  by-event : {e v : Event} {end : ℕ} → r ≡ read.Event v end → e ≡ event_in r → reply_by turn verdict r ≡ reply_on turn verdict e
+  by-event : {e v : Event} {end : ℕ} → r ≡ Ok (v, end) → e ≡ event_in r → reply_by turn verdict r ≡ reply_on turn verdict e
   by-event h k = ap (reply_by turn verdict) h ∙ ap (reply_on turn verdict) (sym (k ∙ ap event_in h))
 
-  pub called-by : {x : Reply} {e v : Event} {end : ℕ} → r ≡ read.Event v end → e ≡ event_in r → is_call e ≡ true → x ≡ call_reply turn → x ≡ reply_by turn verdict r
+  pub called-by : {x : Reply} {e v : Event} {end : ℕ} → r ≡ Ok (v, end) → e ≡ event_in r → is_call e ≡ true → x ≡ call_reply turn → x ≡ reply_by turn verdict r
   called-by {e = e} h k c f = f ∙ sym (by-event h k ∙ call-on turn verdict e c)
 
-  pub fed_by : {x : Reply} {e v : Event} {end : ℕ} {i : Input} {y : Verdict} → r ≡ read.Event v end → e ≡ event_in r → is_call e ≡ false → i ≡ input_of e → y ≡ verdict i → x ≡ input_reply y → x ≡ reply_by turn verdict r
+  pub fed_by : {x : Reply} {e v : Event} {end : ℕ} {i : Input} {y : Verdict} → r ≡ Ok (v, end) → e ≡ event_in r → is_call e ≡ false → i ≡ input_of e → y ≡ verdict i → x ≡ input_reply y → x ≡ reply_by turn verdict r
   fed_by {e = e} h k c g v f = f ∙ (ap input_reply (v ∙ ap verdict g) ∙ sym (by-event h k ∙ input-on turn verdict e c))

@@ -1,5 +1,5 @@
 -- What an event is answered and what it changes: the machine's two calls, and a body that is refused.
-use Rattle.std.specs.Prelude.{ℕ, Bool, true, false, cond, nat_lt}
+use Rattle.std.specs.Prelude.{ℕ, Bool, true, false, cond, nat_lt, Result, Ok, Err}
 use Rattle.numbers.specs.declared.refusal.Refusal.{Refusal}
 use Rattle.pacing.specs.declared.id.IdGenerator.{IdGenerator}
 use Rattle.records.specs.declared.queries.Query.{Query}
@@ -19,8 +19,7 @@ use Rattle.machine.specs.Steps.{called, fed, change_of, taken_of}
 use Rattle.bodies.specs.Told.{input_of}
 use Rattle.bodies.specs.declared.Event.{Event}
 use Rattle.bodies.specs.declared.Event.TheVariants as event
-use Rattle.bodies.specs.declared.EventRead.{EventRead}
-use Rattle.bodies.specs.declared.EventRead.TheVariants as read
+use Rattle.parts.specs.declared.reading.Fault.{Fault}
 use Rattle.input.specs.declared.Input.{Input}
 use Rattle.replies.specs.declared.Answer.TheVariants as answer
 use Rattle.replies.specs.declared.Change.{Change}
@@ -39,9 +38,9 @@ abbrev pub fault_reply : Refusal → Reply
 fault_reply e = record { answer = answer.Input (taken.Refused e); calls = 0; change = change.Nothing }
 
 -- the event of a body; of a refused one, which has none, a call
-abbrev pub event_in : EventRead → Event
-event_in (read.Event e end) = e
-event_in (read.Refused e p) = event.Call
+abbrev pub event_in : Result (Event × ℕ) Fault → Event
+event_in (Ok (e, end)) = e
+event_in (Err f) = event.Call
 
 -- a body that was read: `turn` is what a call is given, `verdict` what becomes of an input
 abbrev pub reply_on : Turn → (Input → Verdict) → Event → Reply
@@ -60,9 +59,9 @@ is_call (event.Success id) = false
 is_call (event.Failure id) = false
 is_call (event.EchRetry id b) = false
 
-abbrev pub reply_by : Turn → (Input → Verdict) → EventRead → Reply
-reply_by turn verdict (read.Event e end) = reply_on turn verdict e
-reply_by turn verdict (read.Refused e p) = fault_reply e
+abbrev pub reply_by : Turn → (Input → Verdict) → Result (Event × ℕ) Fault → Reply
+reply_by turn verdict (Ok (e, end)) = reply_on turn verdict e
+reply_by turn verdict (Err f) = fault_reply f.refusal
 
 -- the machine after a change
 abbrev pub after : Machine → Change → Beside → Machine

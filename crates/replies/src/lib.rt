@@ -1,17 +1,19 @@
 #![tactic(auto)]
 // What an event is answered and what it changes, from what a call is given or what becomes of an input.
-ghost use Rattle.std.specs.Prelude.{◌<◌, ◌≡◌};
+ghost use Rattle.std.specs.Prelude.{◌<◌, ◌≤◌, ◌≡◌};
 ghost use Rattle.replies.specs.Replies.{call_reply, input_reply, fault_reply, event_in, is_call};
-ghost use Rattle.replies.specs.Replies.{ids_after, asked_at, tried_at, answered_at, emptied_at, offered_at, retried_at, touched_by_call, touched_by_input, touched_of};
+ghost use Rattle.replies.specs.Replies.{ids_after, touched_of};
+ghost use Rattle.replies.specs.declared.Touched as Touched;
 ghost use Rattle.after.specs.After.{counted};
 
 use after::ids_called;
-use bodies::{Event, EventRead};
+use bodies::Event;
 use input::Verdict;
 use machine::calls::{Taken, change_of, taken_of};
 use machine::grant::{Output, Turn};
 use numbers::refusal::Refusal;
 use pacing::id::IdGenerator;
+use parts::reading::Reading;
 use records::queries::Query;
 use state::attempts::Attempt;
 use state::changes::{CallChange, InputChange, Round};
@@ -55,24 +57,20 @@ pub enum Touched {
 pub fn call_reply(turn: Turn) -> Reply
     ensures { result ≡ call_reply turn }
 {
-    let output = turn.output;
-    let change = turn.change;
     Reply {
-        answer: Answer::Output(output),
+        answer: Answer::Output(turn.output),
         calls: 1,
-        change: Change::Called(change),
+        change: Change::Called(turn.change),
     }
 }
 
 pub fn input_reply(verdict: Verdict) -> Reply
     ensures { result ≡ input_reply verdict }
 {
-    let taken = taken_of(verdict);
-    let change = change_of(verdict);
     Reply {
-        answer: Answer::Input(taken),
+        answer: Answer::Input(taken_of(verdict)),
         calls: 0,
-        change: Change::Fed(change),
+        change: Change::Fed(change_of(verdict)),
     }
 }
 
@@ -88,123 +86,41 @@ pub fn fault_reply(e: Refusal) -> Reply
 }
 
 // The event of a body; of a refused one, which has none, a call.
-pub fn event_in(read: EventRead) -> Event
+pub fn event_in(read: Reading<Event>) -> Event
     ensures { result ≡ event_in read }
 {
     match read {
-        EventRead::Event(e, _) => e,
-        EventRead::Refused(_, _) => Event::Call,
+        Ok((e, _)) => e,
+        Err(_) => Event::Call,
     }
 }
 
 pub fn is_call(e: Event) -> bool
     ensures { result ≡ is_call e }
 {
-    match e {
-        Event::Call => true,
-        Event::Fails(_, _, _) => false,
-        Event::Holds(_, _, _, _) => false,
-        Event::Success(_) => false,
-        Event::Failure(_) => false,
-        Event::EchRetry(_, _) => false,
-    }
+    matches!(e, Event::Call)
 }
 
 pub fn ids_after(ids: IdGenerator, change: Change) -> IdGenerator
     ensures { result ≡ ids_after ids change }
 {
     match change {
-        Change::Nothing => ids,
         Change::Called(c) => ids_called(ids, c),
-        Change::Fed(_) => ids,
+        Change::Nothing | Change::Fed(_) => ids,
     }
 }
 
-// How many a table of n has, once place p holds something.
-fn filled(n: usize, p: usize) -> usize
-    requires { p < 32 }
-    ensures { result ≡ counted n p }
+// What is stored at place p of a table of n, told with how many it then has. A place outside its room, which no change has, stores nothing.
+fn stored<F: FnOnce(usize) -> Touched>(room: usize, n: usize, p: usize, touch: F) -> Touched
+    requires small { room ≤ 32 }
+    requires callable { F.pre touch (counted n p) }
+    ensures inside { p < room → F.post touch (counted n p) result }
+    ensures outside { room ≤ p → result ≡ Touched.Nothing }
 {
-    if p < n { n } else { p + 1 }
-}
-
-// A place outside its table, which no change has, stores nothing.
-fn asked_at(n: usize, p: usize, q: Query) -> Touched
-    ensures { result ≡ asked_at n p q }
-{
-    if 16 <= p {
+    if room <= p {
         return Touched::Nothing;
     }
-    Touched::Asked(p, q, filled(n, p))
-}
-
-fn tried_at(n: usize, p: usize, a: Attempt) -> Touched
-    ensures { result ≡ tried_at n p a }
-{
-    if 32 <= p {
-        return Touched::Nothing;
-    }
-    Touched::Tried(p, a, filled(n, p))
-}
-
-fn answered_at(n: usize, p: usize, q: Query) -> Touched
-    ensures { result ≡ answered_at n p q }
-{
-    if 16 <= p {
-        return Touched::Nothing;
-    }
-    Touched::Answered(p, q, filled(n, p))
-}
-
-fn emptied_at(n: usize, p: usize, q: Query) -> Touched
-    ensures { result ≡ emptied_at n p q }
-{
-    if 16 <= p {
-        return Touched::Nothing;
-    }
-    Touched::Emptied(p, q, filled(n, p))
-}
-
-fn offered_at(n: usize, p: usize, q: Query, round: Round) -> Touched
-    ensures { result ≡ offered_at n p q round }
-{
-    if 16 <= p {
-        return Touched::Nothing;
-    }
-    Touched::Offered(p, q, filled(n, p), round)
-}
-
-fn retried_at(n: usize, p: usize, a: Attempt, r: usize) -> Touched
-    ensures { result ≡ retried_at n p a r }
-{
-    if 32 <= p {
-        return Touched::Nothing;
-    }
-    Touched::Retried(p, a, filled(n, p), r)
-}
-
-fn call_touches(asked: usize, tried: usize, c: CallChange) -> Touched
-    ensures { result ≡ touched_by_call asked tried c }
-{
-    match c {
-        CallChange::Nothing => Touched::Nothing,
-        CallChange::Asks(p, q) => asked_at(asked, p, q),
-        CallChange::Tries(p, a) => tried_at(tried, p, a),
-        CallChange::Cancels(p, a) => tried_at(tried, p, a),
-    }
-}
-
-fn input_touches(asked: usize, tried: usize, c: InputChange) -> Touched
-    ensures { result ≡ touched_by_input asked tried c }
-{
-    match c {
-        InputChange::Nothing => Touched::Nothing,
-        InputChange::Ends(p, a) => tried_at(tried, p, a),
-        InputChange::Retries(p, a, r) => retried_at(tried, p, a, r),
-        InputChange::Holds(p, q) => answered_at(asked, p, q),
-        InputChange::Empties(p, q) => emptied_at(asked, p, q),
-        InputChange::Offers(p, q, round) => offered_at(asked, p, q, round),
-    }
+    touch(if p < n { n } else { p + 1 })
 }
 
 // With so many query records and attempts before.
@@ -212,8 +128,26 @@ pub fn touched_of(asked: usize, tried: usize, change: Change) -> Touched
     ensures { result ≡ touched_of asked tried change }
 {
     match change {
-        Change::Nothing => Touched::Nothing,
-        Change::Called(c) => call_touches(asked, tried, c),
-        Change::Fed(c) => input_touches(asked, tried, c),
+        Change::Nothing | Change::Called(CallChange::Nothing) | Change::Fed(InputChange::Nothing) =>
+            Touched::Nothing,
+        Change::Called(CallChange::Asks(p, q)) => {
+            stored(16, asked, p, |n| Touched::Asked(p, q, n))
+        }
+        Change::Called(CallChange::Tries(p, a) | CallChange::Cancels(p, a))
+        | Change::Fed(InputChange::Ends(p, a)) => {
+            stored(32, tried, p, |n| Touched::Tried(p, a, n))
+        }
+        Change::Fed(InputChange::Retries(p, a, r)) => {
+            stored(32, tried, p, |n| Touched::Retried(p, a, n, r))
+        }
+        Change::Fed(InputChange::Holds(p, q)) => {
+            stored(16, asked, p, |n| Touched::Answered(p, q, n))
+        }
+        Change::Fed(InputChange::Empties(p, q)) => {
+            stored(16, asked, p, |n| Touched::Emptied(p, q, n))
+        }
+        Change::Fed(InputChange::Offers(p, q, round)) => {
+            stored(16, asked, p, |n| Touched::Offered(p, q, n, round))
+        }
     }
 }

@@ -9,6 +9,6 @@ use Rattle.configuration.proofs.fill_alts.Given as goal
 
 abbrev pub invariant-loop-i : goal.invariant-loop-i
 invariant-loop-i l =
-    (l.n ≤ 4)
-    × (stored alt_of l.alts.list l.i (items (alt l.s) (l.n - l.i) l.p) ≡ stored alt_of l.initial.alts.list 0 (items (alt l.s) l.n l.initial.p))
-    × (stored (alt_name l.s) l.names.list l.i (items (alt l.s) (l.n - l.i) l.p) ≡ stored (alt_name l.s) l.initial.names.list 0 (items (alt l.s) l.n l.initial.p))
+    (l.fn.l.count ≤ 4)
+    × (stored alt_of l.out.alts.list l.i (items (alt l.s) (l.fn.l.count - l.i) l.p) ≡ stored alt_of l.initial.out.alts.list 0 (items (alt l.s) l.fn.l.count l.fn.l.first))
+    × (stored (alt_name l.s) l.out.names.list l.i (items (alt l.s) (l.fn.l.count - l.i) l.p) ≡ stored (alt_name l.s) l.initial.out.names.list 0 (items (alt l.s) l.fn.l.count l.fn.l.first))

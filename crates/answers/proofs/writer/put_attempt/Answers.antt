@@ -19,5 +19,5 @@ put_endpoint-requires c =
     (omega arith, omega (arith, length-take c.ech_len-k.result c.args.ech.bytes))
 
 pub returns : goal.returns
-returns c = as_clauses (let e = host_said _ _ _ _ c.connect_name-host.ensures ∙ rooms_said c.args.id c.args.retry c.args.e c.args.origin c.args.own c.args.ech _ _ _ c.name_len-n.ensures c.name_len-m.ensures c.ech_len-k.ensures in
+returns c = as_clauses (let e = host_said _ _ _ _ c.connect_name-host.ensures ∙ rooms_said c.args.a.id c.args.a.retry c.args.a.endpoint c.args.origin c.args.own c.args.ech _ _ _ c.name_len-n.ensures c.name_len-m.ensures c.ech_len-k.ensures in
     put_as _ _ e (c.put_endpoint.ensures.answer, c.put_endpoint.ensures.bytes))

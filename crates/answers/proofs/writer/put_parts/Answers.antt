@@ -4,14 +4,14 @@ use Prim.Native.Nat.{◌≤◌}
 use native.Mathlib.Omega.{arith}
 use borrow.Author.Tests.{leb-true, leb-false}
 use Rattle.numbers.proofs.PutLaws.{no_room_lem}
-use Rattle.answers.proofs.Joined.{numbers-few, parts_fit, parts_over, body_always, tail_fits, parts_end}
+use Rattle.answers.proofs.Joined.{numbers_few, parts_fit, parts_over, body_always, tail_fits, parts_end}
 use Rattle.answers.proofs.writer.put_parts.Goals as goal
 
 -- the two sums of numbers are small
 few : (c : goal.After-numbers_len-second) → (c.numbers_len-first.result ≤ 80) × (c.numbers_len-second.result ≤ 80)
 few c =
-    let h = numbers-few c.args.head.now in
-    let t = numbers-few c.args.tail.now in
+    let h = numbers_few c.args.head.now in
+    let t = numbers_few c.args.tail.now in
     (omega (arith, c.numbers_len-first.ensures, c.requires.0), omega (arith, c.numbers_len-second.ensures, c.requires.2))
 
 pub overflow_add-need : goal.overflow_add-need

@@ -2,19 +2,15 @@
 use Prim.Native.Nat.{◌-◌}
 use mathlib.Core.Path.{◌≡◌}
 use lib.ListN.{length}
-use Rattle.upcoming.specs.Alike.{alike_of}
 use Rattle.state.specs.State.{made}
-use Rattle.replay.proofs.Wished.{Sized}
-use Rattle.replay.proofs.Steps.{parts}
 use Rattle.replay.proofs.Turning.{Tied}
 use Rattle.replay.proofs.run.run.Given as goal
 
-abbrev pub invariant-loop-at : goal.invariant-loop-at
-invariant-loop-at l = record {
-  tied : Tied l.tape l.initial.out l.first (made l.rules l.timing l.alts l.fn.given) l.at l.written l.calls l.out (parts l.rules l.timing l.alts l.ids l.queries l.answers l.services l.attempts l.retries l.names l.echs);
-  same : l.alike ≡ alike_of l.names l.echs;
-  sized : Sized l.queries l.attempts;
+abbrev pub invariant-loop-done : goal.invariant-loop-done
+invariant-loop-done l = record {
+  tied : Tied l.tape l.initial.out l.first (made l.fn.rules l.fn.timing l.fn.alts l.fn.given) l.done.place l.done.written l.done.calls l.out l.race;
+  sound : l.done.status ≡ 0;
 }
 
-abbrev pub decreases-loop-at : goal.decreases-loop-at
-decreases-loop-at l = length l.tape - l.at
+abbrev pub decreases-loop-done : goal.decreases-loop-done
+decreases-loop-done l = length l.tape - l.done.place
