@@ -38,9 +38,7 @@ impl fmt::Display for Alternative<'_> {
         write!(f, "; alternative service {v} at ")?;
         match self.alt.host {
             AltHost::Origin => f.write_str("the origin's host")?,
-            AltHost::Own(Host::Named) => {
-                write!(f, "{}", Letters(self.name.as_bytes()))?
-            }
+            AltHost::Own(Host::Named) => { write!(f, "{}", Letters(self.name.as_bytes()))? }
             AltHost::Own(Host::V4(a)) => write!(f, "{}", Four(a as u64))?,
             AltHost::Own(Host::V6(hi, lo)) => write!(f, "{}", Six { hi, lo, scope: 0 })?,
         }

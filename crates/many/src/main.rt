@@ -14,7 +14,10 @@ const ROOM: usize = 336434;
 fn answer(rt: &impl Print, tape: &[u8], out: &mut [u8]) -> io::Result<()> {
     let r = replay::tape::replay(tape, out);
     let check = replay::check::tape_check(tape);
-    println!(rt; "{} {} {} {} {check}", r.status, r.place, r.written, r.calls)?;
+    println!(rt;
+        "{} {} {} {} {check}",
+        r.status, r.place, r.written, r.calls
+    )?;
     match out.get(..r.written) {
         Some(answers) => rt.write_all(answers),
         None => Ok(()),

@@ -3,7 +3,7 @@ use bodies::read_event;
 use chart::moments::Moments;
 use course::{Course, Point};
 use reader::answer_at;
-use replay::frames::{FrameRead, frame_at};
+use replay::frames::frame_at;
 
 // The course of the events and their moments, and the place of the next answer.
 #[derive(Clone, Copy)]
@@ -38,11 +38,12 @@ pub fn gather(tape: &[u8], answers: &[u8], from: usize, end: usize) -> Gathered 
     let mut at = from;
     // No `for`: where the next event begins is known only when this one is read.
     while at < end {
-        let FrameRead::Frame(moment, b, next) = frame_at(tape, at) else {
+        let Ok((frame, next)) = frame_at(tape, at) else {
             return g;
         };
-        let start = b.start;
-        g.gather(&tape[start..next], answers, Point { place: at, moment });
+        let body = &tape[frame.body.start..next];
+        let moment = frame.moment;
+        g.gather(body, answers, Point { place: at, moment });
         at = next;
     }
     g

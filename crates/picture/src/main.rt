@@ -72,9 +72,7 @@ fn draw_tape(
     let body = &tape[start..next];
     match read_configuration(body) {
         Err(e) => draw_refused(rt, e),
-        Ok((setup, _)) => {
-            draw_race(rt, tape, answers, Configuration { body, setup }, next, r)
-        }
+        Ok((setup, _)) => { draw_race(rt, tape, answers, Configuration { body, setup }, next, r) }
     }
 }
 

@@ -3,7 +3,7 @@ use chart::markup::{Bar, Mark};
 use chart::page::{BACKS, WAITS};
 use chart::scale::{Scale, column};
 use reader::{Answer, answer_at};
-use replay::frames::{FrameRead, frame_at};
+use replay::frames::frame_at;
 use std::io;
 
 // The last call's moment, its column, and the timer that it was given, 0 for none; before the first call all are 0.
@@ -42,7 +42,12 @@ impl Row {
         if from < until {
             let class = "timer";
             let y = WAITS;
-            rt.print(Bar { class, from, until, y })?;
+            rt.print(Bar {
+                class,
+                from,
+                until,
+                y,
+            })?;
         }
         Ok(())
     }
@@ -100,13 +105,13 @@ pub fn draw_waits(
     let mut at = from;
     // No `for`: where the next event begins is known only when this one is read.
     while at < end {
-        let FrameRead::Frame(moment, _, next) = frame_at(tape, at) else {
+        let Ok((frame, next)) = frame_at(tape, at) else {
             return Ok(());
         };
         let Ok((answer, after)) = answer_at(answers, place) else {
             return Ok(());
         };
-        row.draw(rt, answer, moment)?;
+        row.draw(rt, answer, frame.moment)?;
         place = after;
         at = next;
     }

@@ -145,7 +145,7 @@ pub extern "C" fn probe_read_bytes(s: &[u8], at: usize, len: usize, words: &mut 
 pub extern "C" fn probe_name_ok(s: &[u8]) -> u8
     ensures { result ≡ flag_of (name_ok s.now) }
 {
-    if numbers::name::name_ok(s) { 1 } else { 0 }
+    numbers::name::name_ok(s) as u8
 }
 
 #[unsafe(no_mangle)]

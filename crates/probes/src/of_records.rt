@@ -39,7 +39,7 @@ pub extern "C" fn probe_same_endpoint(list: &[u64], bytes: &[u8], ech: &[u8]) ->
     let c = echs(list, 28, ech);
     let a = endpoint(list, 0);
     let b = endpoint(list, 7);
-    if same_endpoint(n, c, a, b) { 1 } else { 0 }
+    same_endpoint(n, c, a, b) as u8
 }
 
 // The class of each of 14 names, as far as there are words.
@@ -59,5 +59,5 @@ pub extern "C" fn probe_same_class(lengths: &[u64], bytes: &[u8], p: u8, q: u8) 
     ensures { result ≡ flag_of (same_at (names_of lengths.now 0 bytes.now) p q) }
 {
     let same = same_names(names(lengths, 0, bytes));
-    if same_class(same, p, q) { 1 } else { 0 }
+    same_class(same, p, q) as u8
 }

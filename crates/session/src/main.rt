@@ -8,7 +8,7 @@ use intake::{least, next_tape};
 use live::{machine_of, process_input, process_output};
 use numbers::put::put_bytes;
 use numbers::refusal::Refusal;
-use replay::frames::{FrameRead, configuration_at, frame_at};
+use replay::frames::{configuration_at, frame_at};
 use state::Machine;
 use std::io;
 
@@ -32,15 +32,15 @@ fn events(tape: &[u8], from: usize, out: &mut [u8], machine: Machine) -> usize {
     let mut written: usize = 0;
     // No `for`: where the next event begins is known only when this one is read.
     while at < tape.len() {
-        let FrameRead::Frame(moment, b, next) = frame_at(tape, at) else {
+        let Ok((frame, next)) = frame_at(tape, at) else {
             return written;
         };
         if out.len() < written {
             return written;
         }
         let room = out.len() - written;
-        let start = b.start;
-        match answer(&mut m, moment, &tape[start..next], &mut out[written..]) {
+        let body = &tape[frame.body.start..next];
+        match answer(&mut m, frame.moment, body, &mut out[written..]) {
             Ok(n) if n <= room => {
                 at = next;
                 written += n;

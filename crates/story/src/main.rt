@@ -10,11 +10,10 @@ use intake::only_tape;
 use numbers::refusal::refusal_number;
 use outcome::show_summary;
 use reader::answer_at;
-use replay::frames::{FrameRead, configuration_at, frame_at};
+use replay::frames::{configuration_at, frame_at};
 use replay::run::Replayed;
 use replay::tape::replay;
-use std::fmt;
-use std::io;
+use std::{fmt, io};
 use telling::lines::show;
 use telling::piece::{Since, Took};
 use wording::reply::{FaultPlace, Reply};
@@ -60,8 +59,8 @@ impl fmt::Display for Back {
 // The moment of the first event; of a tape that has none, 0.
 fn first_moment(tape: &[u8], at: usize) -> u64 {
     match frame_at(tape, at) {
-        FrameRead::Frame(moment, _, _) => moment,
-        FrameRead::Refused(_) => 0,
+        Ok((frame, _)) => frame.moment,
+        Err(_) => 0,
     }
 }
 
@@ -97,12 +96,18 @@ impl Told {
             last: self.last,
             moment,
         };
-        show(rt, format_args!("{when} host: {back}{}", Said { body, read }))?;
+        show(
+            rt,
+            format_args!("{when} host: {back}{}", Said { body, read }),
+        )?;
         let reply = Reply {
             bytes: answers,
             answer,
         };
-        show(rt, format_args!("{when} machine: {reply}{}", FaultPlace(read)))?;
+        show(
+            rt,
+            format_args!("{when} machine: {reply}{}", FaultPlace(read)),
+        )?;
         self.course.follow(read, answer, place, point);
         self.last = moment;
         self.place = after;
@@ -129,11 +134,12 @@ fn show_events(
     let mut at = from;
     // No `for`: where the next event begins is known only when this one is read.
     while at < end {
-        let FrameRead::Frame(moment, b, next) = frame_at(tape, at) else {
+        let Ok((frame, next)) = frame_at(tape, at) else {
             return Ok(());
         };
-        let start = b.start;
-        told.tell(rt, &tape[start..next], answers, Point { place: at, moment })?;
+        let body = &tape[frame.body.start..next];
+        let moment = frame.moment;
+        told.tell(rt, body, answers, Point { place: at, moment })?;
         at = next;
     }
     show_end(rt, r)?;
@@ -146,7 +152,10 @@ fn show_end(rt: &(impl Print + Alloc), r: Replayed) -> io::Result<()> {
         return Ok(());
     }
     let why = Refused(r.status as u64);
-    show(rt, format_args!("The tape stops at byte {}: {why}", r.place))
+    show(
+        rt,
+        format_args!("The tape stops at byte {}: {why}", r.place),
+    )
 }
 
 fn show_tape(

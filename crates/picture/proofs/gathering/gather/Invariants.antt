@@ -1,5 +1,5 @@
 use Rattle.std.proofs.Common.{◌≤◌, ◌-◌}
-use Rattle.picture.proofs.gathering.kept_until.Given as goal
+use Rattle.picture.proofs.gathering.gather.Given as goal
 
 abbrev pub invariant-loop-at : goal.invariant-loop-at
 invariant-loop-at l = 0 ≤ l.at
