@@ -1,5 +1,6 @@
 -- What the machine's answers say: an output with the names and ECH bytes at its places, and what became of an input.
-use Rattle.std.specs.Prelude.{ℕ, cond, List, nat_lt}
+use Rattle.machine.specs.Steps.{Taken}
+use Rattle.std.specs.Prelude.{Ok, Err, ℕ, cond, List, nat_lt}
 use Rattle.std.proofs.Math.Option.{Option, none, some}
 use Rattle.numbers.specs.Refusals.{refusal_number}
 use Rattle.records.specs.Endpoints.{ShownTarget, four, six, host, Shown}
@@ -13,8 +14,6 @@ use Rattle.records.specs.declared.endpoints.Target.TheVariants.{V4, V6, Named}
 use Rattle.records.specs.declared.endpoints.Endpoint.{Endpoint}
 use Rattle.machine.specs.declared.grant.Output.{Output}
 use Rattle.machine.specs.declared.grant.Output.TheVariants as output
-use Rattle.machine.specs.declared.calls.Taken.{Taken}
-use Rattle.machine.specs.declared.calls.Taken.TheVariants as taken
 use Rattle.answers.specs.Answers.{Said, waiting, query, timer, attempt, cancel, succeeded, failed, full}
 
 -- an endpoint with the bytes of its host and of its ECH configuration
@@ -84,5 +83,5 @@ said_of names echs o = said_by (name_bytes_at names 0) (name_bytes_at names (out
 
 -- what became of an input: "8, number"
 abbrev pub taken_number : Taken → ℕ
-taken_number taken.Accepted = 0
-taken_number (taken.Refused e) = refusal_number e
+taken_number (Ok tt) = 0
+taken_number (Err e) = refusal_number e

@@ -263,8 +263,8 @@ fn taken_number(t: Taken) -> u8
     ensures { result ≡ taken_number t }
 {
     match t {
-        Taken::Accepted => 0,
-        Taken::Refused(e) => refusal_number(e),
+        Ok(()) => 0,
+        Err(e) => refusal_number(e),
     }
 }
 

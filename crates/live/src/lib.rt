@@ -47,8 +47,8 @@ fn input_fed(m: Machine, moment: u64, body: &[u8], e: Event) -> Fed
     let beside = beside_of(body, e);
     let step = machine::calls::process_input(m, moment, input, beside);
     let number = match step.taken {
-        Taken::Accepted => 0,
-        Taken::Refused(e) => refusal_number(e),
+        Ok(()) => 0,
+        Err(e) => refusal_number(e),
     };
     Fed {
         number,

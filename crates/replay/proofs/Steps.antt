@@ -29,11 +29,9 @@ use Rattle.records.specs.declared.services.Services.{Services}
 use Rattle.state.specs.State.{made}
 use Rattle.state.specs.declared.attempts.Attempts.{Attempts}
 use Rattle.state.specs.declared.attempts.Retries.{Retries}
-use Rattle.input.specs.Input.{verdict_of}
+use Rattle.input.specs.Input.{Verdict, verdict_of}
 use Rattle.input.specs.Verdicts.{Inside}
 use Rattle.input.specs.declared.Input.{Input}
-use Rattle.input.specs.declared.Verdict.{Verdict}
-use Rattle.input.specs.declared.Verdict.TheVariants as verdict
 use Rattle.input.proofs.Laws.{inside-rooms}
 use Rattle.machine.specs.declared.calls.Survey.{Survey}
 use Rattle.machine.specs.declared.wish.Found.{Found}
@@ -231,8 +229,8 @@ judged-proper : (m : Machine) (now : ℕ) (i : Input) → Sized m.queries m.atte
 judged-proper m now i s = by (verdict_for m now i) refl
   where
     by : (v : Verdict) → verdict_for m now i ≡ v → Proper (change.Fed (change_of v))
-    by (verdict.Accepted c) e = fed-proper c _ _ _ (inside-rooms m.rules.ech m.queries m.attempts m.retries.count now s.0 s.1 i c e)
-    by (verdict.Refused r) e = tt
+    by (Ok c) e = fed-proper c _ _ _ (inside-rooms m.rules.ech m.queries m.attempts m.retries.count now s.0 s.1 i c e)
+    by (Err r) e = tt
 
 event-proper : (m : Machine) (alike : classes.Alike) (now : ℕ) (e : Event) → Sized m.queries m.attempts → Proper (reply_on (turn_for m alike now) (verdict_for m now) e).change
 event-proper m alike now event.Call s = tt

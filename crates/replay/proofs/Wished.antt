@@ -1,4 +1,6 @@
 -- The places that a wish names lie inside their tables, whose sizes no change alters; so what is given may be given for one record and one attempt.
+use Rattle.upcoming.specs.Wanted.{Wanted}
+use Rattle.std.specs.Prelude.{Option, Some, None}
 use Prim.Native.Nat.{ℕ, ◌+◌, ◌≤◌, ◌<◌}
 use mathlib.Core.Path.{◌≡◌, ap, ◌∙◌}
 use mathlib.Core.Bool.{Bool, true, false, cond, ◌||◌}
@@ -23,10 +25,6 @@ use Rattle.starting.specs.Surveys.{first_place, is_open_attempt, is_due_query, t
 use Rattle.starting.specs.Starting.{attempt_left, resolution_left}
 use Rattle.starting.specs.declared.surveys.Tries.{Tries}
 use Rattle.starting.specs.declared.surveys.Asks.{Asks}
-use Rattle.starting.specs.declared.surveys.Place.{Place}
-use Rattle.starting.specs.declared.surveys.Place.TheVariants as place
-use Rattle.upcoming.specs.declared.wanted.Wanted.{Wanted}
-use Rattle.upcoming.specs.declared.wanted.Wanted.TheVariants as wanted
 use Rattle.machine.specs.Output.{end_wish, last_wish, timer_wish, refresh_wish, query_wish, next_origin, wish_found, wish_from, wish_query, wish_attempt, grant_of, granted}
 use Rattle.machine.specs.Steps.{survey_of}
 use Rattle.machine.specs.declared.calls.Survey.{Survey}
@@ -51,16 +49,16 @@ attempt-sized q a p x h = (h.0, length-set a.list p x ∙ h.1)
 
 -- The places of a wish
 
-abbrev Low : ℕ → Place → Type 0
-Low n (place.At p) = p < n
-Low n place.Nowhere = Unit {0}
+abbrev Low : ℕ → Option ℕ → Type 0
+Low n (Some p) = p < n
+Low n None = Unit {0}
 
 first-low : {A : Type 0} (test : A → Bool) (i n : ℕ) (l : List A) → i + length l ≤ n → Low n (first_place test i l)
 unfolding first_place
 first-low test i n [] h = tt
 first-low test i n (x ∷ l) h = by (test x) (omega arith) (first-low test (i + 1) n l (omega arith))
   where
-    by : (b : Bool) → i < n → Low n (first_place test (i + 1) l) → Low n (cond b (place.At i) (first_place test (i + 1) l))
+    by : (b : Bool) → i < n → Low n (first_place test (i + 1) l) → Low n (cond b (Some i) (first_place test (i + 1) l))
     by true k r = k
     by false k r = r
 
@@ -77,9 +75,9 @@ either : (b : Bool) (v w : Wish) → Inside v → Inside w → Inside (cond b v 
 either true v w h k = h
 either false v w h k = k
 
-end-inside : (p : Place) → Low 32 p → Inside (end_wish p)
-end-inside (place.At p) h = (omega arith, h)
-end-inside place.Nowhere h = none
+end-inside : (p : Option ℕ) → Low 32 p → Inside (end_wish p)
+end-inside (Some p) h = (omega arith, h)
+end-inside None h = none
 
 found_inside : (f : Found) (rest : Wish) → Inside rest → Inside (wish_found f rest)
 found_inside (found.Retry e) rest h = none
@@ -88,12 +86,12 @@ found_inside (found.Query k p) rest h = none
 found_inside found.Nothing rest h = h
 
 query-inside : (w : Wanted) (rest : Wish) → Inside rest → Inside (query_wish w rest)
-query-inside (wanted.Query k p) rest h = none
-query-inside wanted.Nothing rest h = h
+query-inside (Some (k, p)) rest h = none
+query-inside None rest h = h
 
-refresh-inside : (p : Place) (rest : Wish) → Low 16 p → Inside rest → Inside (refresh_wish p rest)
-refresh-inside (place.At p) rest h k = (h, omega arith)
-refresh-inside place.Nowhere rest h k = k
+refresh-inside : (p : Option ℕ) (rest : Wish) → Low 16 p → Inside rest → Inside (refresh_wish p rest)
+refresh-inside (Some p) rest h k = (h, omega arith)
+refresh-inside None rest h k = k
 
 timer-inside : (a r : ℕ) (rest : Wish) → Inside rest → Inside (timer_wish a r rest)
 unfolding timer_wish

@@ -2,6 +2,7 @@
 --     said-size        an output takes 11 bytes at most, and 782 more where it asks for something
 --     step-size        for each byte of the event 265 at most; or 4, and 782 more where it asks for something
 --     Sized, sized     the same of events one after the other
+use Rattle.std.specs.Prelude.{Ok, Err}
 use Prim.Native.Nat.{ℕ, zero, suc, ◌+◌, ◌*◌, ◌/◌, ◌%◌, ◌≤◌, ◌<◌}
 use mathlib.Core.Path.{◌≡◌, refl, ap, ◌∙◌}
 use mathlib.Core.Bool.{Bool, true, false, cond, ◌&&◌}
@@ -30,11 +31,9 @@ use Rattle.records.specs.declared.endpoints.Target.TheVariants.{V4, V6, Named}
 use Rattle.records.specs.declared.queries.Kind.{Kind}
 use Rattle.records.specs.declared.queries.Kind.TheVariants.{Https, Aaaa, A}
 use Rattle.state.specs.declared.Machine.{Machine}
-use Rattle.machine.specs.Steps.{output_step, input_step}
+use Rattle.machine.specs.Steps.{Taken, output_step, input_step}
 use Rattle.input.specs.declared.Input.{Input}
 use Rattle.machine.specs.declared.calls.Beside.{Beside}
-use Rattle.machine.specs.declared.calls.Taken.{Taken}
-use Rattle.machine.specs.declared.calls.Taken.TheVariants as taken
 use Rattle.machine.specs.declared.grant.Output.{Output}
 use Rattle.machine.specs.declared.grant.Output.TheVariants as output
 use Rattle.machine.specs.declared.grant.Table.{Table}
@@ -130,8 +129,8 @@ refusal-small AlreadyEnded = omega arith
 refusal-small NoRoom = omega arith
 
 taken-small : (t : Taken) → taken_number t < 128
-taken-small taken.Accepted = omega arith
-taken-small (taken.Refused e) = refusal-small e
+taken-small (Ok tt) = omega arith
+taken-small (Err e) = refusal-small e
 
 -- a host is no longer than its name
 undotted-few : (s : List ℕ) → length (undotted s) ≤ length s
