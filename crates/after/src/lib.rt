@@ -32,7 +32,8 @@ fn counted(n: usize, p: usize) -> usize
     n.max(p + 1)
 }
 
-// Something stored in its table. A place outside it, which no change has, stores nothing.
+// Something stored in its table. A place outside it, which no change has, stores nothing. Twice, here and for names and ECH bytes below: the
+// tables are types of their own, and what is common to them is a line.
 #[tactic(auto, unfolding(crate::specs::After::put_query))]
 fn put_query(queries: &mut Queries, p: usize, q: Query)
     ensures { queries.new ≡ put_query queries.old p q }

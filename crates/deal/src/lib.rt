@@ -95,6 +95,7 @@ fn deal_rounds(groups: &[u8], out: &mut [u16]) -> bool
     let mut m = first_round(&counts, &mut active);
     let mut r = 0;
     let mut at = 0;
+    // (what a round deals says whether there is another: no range to walk)
     while 0 < m {
         let k = deal_round(&queues, &counts, &mut active, m, r, out, at);
         at += m;

@@ -6,7 +6,7 @@ ghost use Rattle.listing.specs.Room.{ranked};
 use records::endpoints::Rank;
 use records::rules::{Version, Versions};
 
-// The combinations of a set of versions: at most two.
+// The combinations of a set of versions: at most two. No pair of Options: `ranked` and `at_ranks` of specs/Room speak of the count.
 #[derive(Clone, Copy)]
 pub struct Ranks {
     pub count: usize,

@@ -61,7 +61,8 @@ pub struct Survey {
     pub look: Look,
 }
 
-// What is found among the records. The classes of names and ECH bytes are worked out only where something is looked for.
+// What is found among the records. The classes of names and ECH bytes are worked out only where something is looked for. The steps by value
+// beside this (`survey_of`, `turn_of` and those of wish.rt) are promises that rule 6.1 names.
 #[tactic(auto, using(crate::proofs::Looking::looking))]
 fn found_in(m: &Machine, look: Look, asks: Asks) -> Found
     ensures { result ≡ found_by (same_at m.now.names) (same_endpoint m.now.names m.now.echs) look asks.asked m.now.rules m.now.alts m.now.queries m.now.answers m.now.services m.now.attempts m.now.retries }

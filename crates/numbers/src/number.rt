@@ -23,6 +23,7 @@ pub fn read_number(s: &[u8], at: usize) -> Result<(u64, usize), Refusal>
     let mut v: u64 = 0;
     let mut i: u32 = 0;
     let mut p = at;
+    // (no `for` over the ten groups: reading took a third longer)
     loop {
         if s.len() <= p {
             return Err(Refusal::Cut);
@@ -60,6 +61,7 @@ pub fn number_len(n: u64) -> usize
 {
     let mut v = n;
     let mut i: usize = 0;
+    // (what is left decides, not i: a `for` would be no plainer, here and below)
     while 128 <= v {
         v = v >> 7;
         i += 1;

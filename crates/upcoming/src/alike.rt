@@ -24,7 +24,8 @@ pub struct Alike {
     pub echs: SameEchs,
 }
 
-// The class of a place. Outside the table a host is the origin's, and ECH bytes are none.
+// The class of a place. Outside the table a host is the origin's, and ECH bytes are none. The two tables are types of their own in the
+// definitions (`host_class`, `ech_class`), so that neither is read for the other.
 #[tactic(auto, unfolding(crate::specs::Alike::host_class))]
 fn host_class(t: SameHosts, place: u8) -> u8
     ensures { result ≡ host_class t place }
