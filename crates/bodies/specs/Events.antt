@@ -1,4 +1,4 @@
--- Input bodies and the call, rules B.1, B.5 and B.7 (document 01, "Numbers and bodies"): what a body says, with its items and bytes where they stand.
+-- Input bodies and the call, rules B.1, B.5 and B.7: what a body says, with its items and bytes where they stand.
 use Rattle.std.specs.Prelude.{cond, ℕ, ◌%◌, List, Result, Ok, Err, nat_lt, nat_le, nat_eq, length}
 use Rattle.numbers.specs.Got.{Got, got, refused, and_then}
 use Rattle.numbers.specs.Fields.{at_most, bytes_at}

@@ -1,4 +1,4 @@
--- What a body tells, in plain values: a call, or an input with what comes beside it (document 01, parts 7 and 8).
+-- What a body tells, in plain values: a call, or an input with what comes beside it (rules B.5 and B.7).
 use Rattle.std.specs.Prelude.{ℕ, List}
 use Rattle.records.specs.Names.{no_ech}
 use Rattle.records.specs.Queries.{no_addresses}

@@ -2,6 +2,7 @@
 --     no-space, space          what `has_room` says
 --     no_room_lem, room            answer and bytes, where the bytes do not fit and where they do
 --     store, store-next        one byte stored is one byte less to store; store-end: none is left
+--     part_stored              a part that is written at once
 --     put-put, put_two         two writes, one after the other, are one write of both
 use mathlib.Core.Path.{◌≡◌, refl, sym, ◌∙◌}
 use mathlib.Core.Bool.{Bool, true, false, not}

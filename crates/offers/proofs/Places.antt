@@ -1,7 +1,6 @@
 -- Services of an HTTPS answer where they stand, and the same in their rooms.
 --     located-none, located-all         of services that can't be read, and of those that are found
 --     each-of-four                      what is made of each of four, one after the other
---     mapped                            what is made of each of some
 --     no_name_lem, no-ech                   the empty span in its room
 --     rooms-brought, rooms-none         in their rooms they are the services that an answer brings, and none are none
 --     offered-located                   the same of the services at a place
@@ -9,7 +8,7 @@
 --     none-located                      where no service is counted, no place is told
 use mathlib.Core.Path.{◌≡◌, refl, sym, ap, ◌∙◌}
 use mathlib.Core.List.{List, [], ◌∷◌, ◌++◌, map, map-append}
-use Prim.Native.Nat.{ℕ, zero, suc, ◌-◌, ◌≤◌, ◌<◌}
+use Prim.Native.Nat.{ℕ, zero, suc, ◌-◌, ◌≤◌}
 use native.Mathlib.Omega.{arith}
 use lib.ListN.{length, get_or, replicate, length-append, length-replicate, length-map}
 use borrow.Author.Tests.{le-leb}
@@ -49,14 +48,6 @@ module _ {A B : Type 0} (f : A → B) (z : A) where
   each-of-four (a ∷ b ∷ []) e = absurd (omega arith)
   each-of-four (a ∷ b ∷ c ∷ []) e = absurd (omega arith)
   each-of-four (a ∷ b ∷ c ∷ d ∷ x ∷ l) e = absurd (omega arith)
-
-  -- n elements, each what f makes of the one at its place
-  pub mapped : (n : ℕ) (l : List A) (r : List B) → length l ≡ n → length r ≡ n → ((i : ℕ) → i < n → get_or r i (f z) ≡ f (get_or l i z)) → r ≡ map f l
-  mapped n [] [] d e h = refl
-  mapped n [] (y ∷ r) d e h = absurd (omega (arith, d, e))
-  mapped n (x ∷ l) [] d e h = absurd (omega (arith, d, e))
-  mapped zero (x ∷ l) (y ∷ r) d e h = absurd (omega (arith, d))
-  mapped (suc n) (x ∷ l) (y ∷ r) d e h = λ j. h 0 (omega arith) j ∷ mapped n l r (omega (arith, d)) (omega (arith, e)) (λ i k. h (suc i) (omega (arith, k))) j
 
   map-replicate : (n : ℕ) → map f (replicate n z) ≡ replicate n (f z)
   map-replicate zero = refl

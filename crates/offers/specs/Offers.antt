@@ -1,4 +1,4 @@
--- A service in an HTTPS answer, rule B.6 (document 01, "Numbers and bodies"): first where its name, ECH bytes and hints stand, then what they are.
+-- A service in an HTTPS answer, rule B.6: first where its name, ECH bytes and hints stand, then what they are.
 use Rattle.std.specs.Prelude.{cond, ℕ, ◌-◌, List, map, nat_eq, length, replicate, Option, None, Some}
 use Rattle.numbers.specs.Fields.{at_most, bytes_at, name_at}
 use Rattle.numbers.specs.Names.{longest_name}

@@ -216,19 +216,22 @@ pub fn locate_offers(s: &[u8], l: Items) -> Located
     out
 }
 
+// One by one: `map` or a loop takes twice the time.
 fn names_in(s: &[u8], l: [Span; 4]) -> TargetNames
     ensures { result ≡ names_in s.now l }
 {
+    let [a, b, c, d] = l;
     TargetNames {
-        list: l.map(|b| name_of(s, b)),
+        list: [name_of(s, a), name_of(s, b), name_of(s, c), name_of(s, d)],
     }
 }
 
 fn echs_in(s: &[u8], l: [Span; 4]) -> TargetEchs
     ensures { result ≡ echs_in s.now l }
 {
+    let [a, b, c, d] = l;
     TargetEchs {
-        list: l.map(|b| ech_of(s, b)),
+        list: [ech_of(s, a), ech_of(s, b), ech_of(s, c), ech_of(s, d)],
     }
 }
 

@@ -1,24 +1,27 @@
 -- Bytes of a body copied into a room of zeros.
 --     fits-there            bytes that fit lie in the body
 --     kept_there, kept-none what is kept of the bytes
---     put-kept              bytes that fit, put into the room, are what is kept
+--     put-kept              bytes that fit, put into the room by the writer, are what is kept
+--     kept_length, kept_front, none_kept, no_bytes_kept     the same of a copy into the front of the room
 --     kept-few              what is kept fits its room
 --     name_back, ech-back   the bytes in a room are those that were copied
-use mathlib.Core.Path.{◌≡◌, refl, sym, ap}
+use mathlib.Core.Path.{◌≡◌, refl, sym, ap, ◌∙◌}
 use mathlib.Core.Bool.{Bool, true, false, cond, ◌&&◌}
 use mathlib.Core.List.{List, [], ◌++◌}
 use Prim.Native.Nat.{ℕ, ◌+◌, ◌-◌, ◌≤◌}
 use native.Mathlib.Omega.{arith}
 use lib.Dec.{leb as nat_le}
-use lib.ListN.{length, take, drop, replicate, length-take, length-drop}
+use lib.ListN.{length, take, drop, replicate, length-take, length-drop, length-replicate}
 use lib.Seq.{take_at}
 use borrow.Author.Tests.{leb-true}
 use Rattle.numbers.specs.Fields.{span_bytes}
+use Rattle.numbers.specs.Put.{put_bytes}
+use Rattle.numbers.proofs.PutLaws as put
 use Rattle.numbers.specs.declared.field.Span.{Span}
 use Rattle.records.specs.Lists.{padded}
 use Rattle.records.specs.Names.{name_bytes, ech_bytes}
 use Rattle.parts.specs.Rooms.{fits, kept, name_in, ech_in}
-use Rattle.parts.proofs.Filling.{drop-zeros}
+use Rattle.parts.proofs.Filling.{drop-zeros, sets-padded}
 
 both : (a b : Bool) → a && b ≡ true → (a ≡ true) × (b ≡ true)
 both true true e = (refl, refl)
@@ -41,6 +44,15 @@ kept-none room s b e = rw e
 
 pub span-length : (s : List ℕ) (start len : ℕ) → start + len ≤ length s → length (take len (drop start s)) ≡ len
 span-length s start len h = rw (length-take, length-drop) (omega arith)
+
+pub put-kept : (room : ℕ) (s : List ℕ) (b : Span) → fits room s b ≡ true → {out : List ℕ} → out ≡ put_bytes (replicate room 0) 0 (take (b.start + b.len - b.start) (drop b.start s))
+    → (b.len ≡ length (kept room s b)) × (out ≡ padded room 0 (kept room s b))
+put-kept room s b e f =
+    let x = fits-there room s b e in
+    let l = span-length s b.start b.len x.1 in
+    let n : b.start + b.len - b.start ≡ b.len = omega arith in
+    let few : 0 + length (span_bytes s b) ≤ length {A = ℕ} (replicate room 0) = rw length-replicate (omega (arith, l, x.0)) in
+    rw (kept_there room s b e) (sym l, (rw n at f) ∙ (sym (put.room (replicate room 0) 0 (span_bytes s b) few).1 ∙ sets-padded 0 room (span_bytes s b) (omega (arith, l, x.0))))
 
 -- what a room holds once bytes that fit are in its front, and where they don't fit
 pub kept_length : (room : ℕ) (s : List ℕ) (b : Span) → fits room s b ≡ true → b.len ≡ length (kept room s b)

@@ -8,6 +8,7 @@ use mathlib.Core.Option.{Option, none, some}
 use Prim.Native.Nat.{ℕ, ◌+◌, ◌-◌, ◌^◌, ◌<◌}
 use native.Mathlib.Omega.{arith}
 use lib.ListN.{length, length-append}
+use Rattle.std.specs.Prelude.{Option as CodeOption, None, Some}
 use Rattle.numbers.specs.Fields.{bytes_at}
 use Rattle.numbers.specs.Names.{longest_name}
 use Rattle.numbers.specs.Numbers.{number_bytes}
@@ -30,8 +31,6 @@ use Rattle.parts.proofs.Back.{There, there-left, there-right, most-back, limited
 use Rattle.parts.proofs.AddressBack.{four-back, six-back}
 use Rattle.parts.proofs.FieldBack.{versions-small, versions-back, port-back, kept_back, field_back}
 use Rattle.offers.specs.Offers.{head, ech, way, hints, offer, sealed_at, service_of, target_name, ech_from, target_ech}
-use Rattle.offers.specs.declared.EchSpan.{EchSpan}
-use Rattle.offers.specs.declared.EchSpan.TheVariants.{Without, Sealed}
 use Rattle.offers.specs.declared.Head.{Head}
 use Rattle.offers.specs.declared.Way.{Way}
 use Rattle.offers.specs.declared.Hints.{Hints}
@@ -67,12 +66,12 @@ module _ (s : List ℕ) where
       }
 
   -- an ECH field, and what is kept of its bytes
-  unfoldable pub EchRight : Option (List ℕ) → EchSpan → Type 0
+  unfoldable pub EchRight : Option (List ℕ) → CodeOption Span → Type 0
   EchRight o e = (sealed_at e ≡ place_of o) × (ech_from s e ≡ ech_of o)
 
   pub ech-back : (p : ℕ) (o : Option (List ℕ)) → FitsEch o → There s p (ech_bytes o) → Back (ech s p) (p + length (ech_bytes o)) (EchRight o)
   unfolding EchRight
-  ech-back p none ok t = record { value = Without; reads = ech-none s p 0 (p + length (number_bytes 0)) (most-back s p 513 too_many 0 (omega arith) (omega arith) t) refl; right = (refl, refl) }
+  ech-back p none ok t = record { value = None; reads = ech-none s p 0 (p + length (number_bytes 0)) (most-back s p 513 too_many 0 (omega arith) (omega arith) t) refl; right = (refl, refl) }
   ech-back p (some bs) ok t =
       let n = number_bytes (length bs + 1) in
       let q = p + length n in
@@ -82,10 +81,10 @@ module _ (s : List ℕ) where
       let b : Span = record { start = q; len = length bs } in
       let e : q + length bs ≡ p + length (n ++ bs) = omega (arith, length-append n bs) in
       record {
-        value = Sealed b;
+        value = Some b;
         reads =
-            ap (read (Sealed b)) (sym e)
-            ∙ went_on (λ b end. read (Sealed b) end) b (q + length bs) (on-field q (bytes_back s q bs u) ∙ ap (λ k. field q (bytes_at s k q)) k)
+            ap (read (Some b)) (sym e)
+            ∙ went_on (λ b end. read (Some b) end) b (q + length bs) (on-field q (bytes_back s q bs u) ∙ ap (λ k. field q (bytes_at s k q)) k)
             ∙ ech-some s p (length bs + 1) q a (λ z. omega arith);
         right = (refl, ap ech_in (kept_back s 512 q bs ok u));
       }

@@ -11,6 +11,7 @@ use native.Mathlib.Omega.{arith}
 use lib.Dec.{ltb as nat_lt, leb as nat_le, eqb as nat_eq}
 use lib.ListN.{length, drop, length-drop}
 use borrow.Author.Tests.{ltb-false}
+use Rattle.std.specs.Prelude.{None, Some}
 use Rattle.numbers.specs.Got.{Got, got, refused, and_then}
 use Rattle.numbers.specs.Fields.{at_most, bytes_at, span_bytes, name_length, named, name_at}
 use Rattle.numbers.specs.Names.{name_ok, longest_name}
@@ -27,7 +28,6 @@ use Rattle.parts.specs.declared.address.Form.{Form}
 use Rattle.parts.specs.declared.address.Form.TheVariants.{Four, Six, Scoped}
 use Rattle.parts.proofs.Steps.{then-read}
 use Rattle.offers.specs.Offers.{head, ech, way, hints, offer}
-use Rattle.offers.specs.declared.EchSpan.TheVariants.{Without, Sealed}
 use Rattle.bodies.specs.Events.{items_at, answer_at, retry_at, rest_at, input_at, kind_at, body_at, event_at, fault_of}
 use Rattle.bodies.specs.declared.Event.{Event}
 use Rattle.bodies.specs.declared.Event.TheVariants as event
@@ -208,8 +208,8 @@ module _ (s : List ℕ) where
   unfolding ech
   ech-inside p h =
       in-next s (field p (at_most 513 too_many (read_number s p))) _ (size-inside 513 p h) (λ n q i.
-      in-cond s (nat_eq n 0) (read Without q) (next (field q (bytes_at s (n - 1) q)) (λ b end. read (Sealed b) end)) (in-read s Without q i)
-      (in-next s (field q (bytes_at s (n - 1) q)) (λ b end. read (Sealed b) end) (bytes_inside (n - 1) q i) (λ b end j. in-read s (Sealed b) end j)))
+      in-cond s (nat_eq n 0) (read None q) (next (field q (bytes_at s (n - 1) q)) (λ b end. read (Some b) end)) (in-read s None q i)
+      (in-next s (field q (bytes_at s (n - 1) q)) (λ b end. read (Some b) end) (bytes_inside (n - 1) q i) (λ b end j. in-read s (Some b) end j)))
 
   way-inside : (p : ℕ) → p ≤ length s → Inside s (way s p)
   unfolding way

@@ -1,9 +1,9 @@
--- Bytes behind a body change nothing of what was read before them. So a configuration of document 01's edition, with the fields of a later
+-- Bytes behind a body change nothing of what was read before them. So a configuration of this edition, with the fields of a later
 -- one behind it, says there what it said.
 --     Keeps, Stays       what is read without more bytes is read with them: a field, and any reading
 --     fields-longer      the fields of a configuration that every edition has
 --     rooms-longer       what is held of them
---     later-edition      a body of document 01's edition, with what another adds behind it
+--     later-edition      a body of this edition, with what another adds behind it
 use mathlib.Core.Path.{◌≡◌, refl, sym, ap, subst, ◌∙◌}
 use mathlib.Core.Bool.{Bool, true, false, cond}
 use mathlib.Core.List.{List, [], ◌∷◌, ◌++◌, map}

@@ -1,6 +1,6 @@
 -- A configuration that is read is in form, whatever the bytes, and the machine that is made of it stands.
 --     fields-sound     in any edition
---     setup-sound      in document 01's
+--     setup-sound      in this one
 --     setup-stands     the machine that a tape makes
 use mathlib.Core.Path.{◌≡◌, refl, sym, ap, subst, ◌∙◌}
 use mathlib.Core.Bool.{Bool, true, false, cond}

@@ -9,7 +9,9 @@ use native.Mathlib.Omega.{arith}
 use lib.Dec.{leb as nat_le}
 use lib.ListN.{length, get_or, take, replicate, length-map}
 use borrow.Author.Tests.{le-leb, lt-leb, eq-eqb}
+use Rattle.std.specs.Prelude.{Option, None, Some}
 use Rattle.numbers.specs.Names.{name_ok, longest_name}
+use Rattle.numbers.specs.declared.field.Span.{Span}
 use Rattle.records.specs.Lists.{padded}
 use Rattle.records.specs.Names.{no_name, no_ech, name_bytes}
 use Rattle.records.specs.Queries.{no_addr, no_addresses}
@@ -33,8 +35,6 @@ use Rattle.parts.proofs.Steps.{then-read}
 use Rattle.parts.proofs.Items.{items-length, items-all, listed-few}
 use Rattle.parts.proofs.Copying.{kept-few, name_back}
 use Rattle.offers.specs.Offers.{offer, sealed_at, service_of, target_name, ech_from, target_ech, brought, no_offered, offered_in}
-use Rattle.offers.specs.declared.EchSpan.{EchSpan}
-use Rattle.offers.specs.declared.EchSpan.TheVariants.{Without, Sealed}
 use Rattle.offers.specs.declared.Offer.{Offer}
 use Rattle.bodies.specs.Events.{event_at}
 use Rattle.bodies.specs.Told.{Told, call, fed, input_of, beside_of, told_by, read_body}
@@ -100,9 +100,9 @@ no-ech-sound : (there : Bool) → ech_sound there no_ech ≡ true
 no-ech-sound there = subst (λ e. ech_sound there e ≡ true) no-ech-in (ech-sound there [] (omega arith) (or_right there true refl))
 
 module _ (s : List ℕ) where
-  sealed-sound : (e : EchSpan) → ech_sound (has_ech (sealed_at e)) (ech_from s e) ≡ true
-  sealed-sound Without = no-ech-sound false
-  sealed-sound (Sealed b) = ech-sound true (kept 512 s b) (kept-few s 512 b) (or_left true (zero? (length (kept 512 s b))) refl)
+  sealed-sound : (e : Option Span) → ech_sound (has_ech (sealed_at e)) (ech_from s e) ≡ true
+  sealed-sound None = no-ech-sound false
+  sealed-sound (Some b) = ech-sound true (kept 512 s b) (kept-few s 512 b) (or_left true (zero? (length (kept 512 s b))) refl)
 
   hints-sound : (o : Offer) → hints_sound (service_of s o) ≡ true
   unfolding hints_sound service_of fours_in sixes_in

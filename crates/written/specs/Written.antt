@@ -1,4 +1,4 @@
--- Bodies as a host writes them, rules B.5 to B.7 (document 01, "Numbers and bodies"): the bytes of an event in plain values, and what it tells.
+-- Bodies as a host writes them, rules B.5 to B.7: the bytes of an event in plain values, and what it tells.
 -- proofs/ReadBack.antt has the law: what is written is read back.
 use Rattle.std.specs.Prelude.{ℕ, ◌+◌, ◌^◌, ◌≤◌, ◌<◌, ◌≡◌, Bool, true, List, ◌++◌, map, length}
 use Rattle.std.proofs.Math.Option.{Option, none, some}

@@ -18,10 +18,10 @@ returns-in_default c =
 pub loop-i-preserved : goal.loop-i-preserved
 unfolding alt_name
 loop-i-preserved c = (
-      c.loop-i.invariant.0,
-      rw c.alt_of.ensures (fill_more alt_of _ _ _ _ _ _ c.loop-i.invariant.1 c.loop-i-test.true c.in-Ok.ensures),
-      rw c.host_name.ensures (fill_more (alt_name _) _ _ _ _ _ _ c.loop-i.invariant.2 c.loop-i-test.true c.in-Ok.ensures),
-    )
+  c.loop-i.invariant.0,
+  rw c.alt_of.ensures (fill_more alt_of _ _ _ _ _ _ c.loop-i.invariant.1 c.loop-i-test.true c.in-Ok.ensures),
+  rw c.host_name.ensures (fill_more (alt_name _) _ _ _ _ _ _ c.loop-i.invariant.2 c.loop-i-test.true c.in-Ok.ensures),
+)
 
 pub returns : goal.returns
 unfolding no_alternatives no_alts
