@@ -26,7 +26,6 @@ use Rattle.records.specs.Services.{no_services}
 use Rattle.records.specs.declared.queries.Queries.{Queries}
 use Rattle.records.specs.declared.queries.Answers.{Answers}
 use Rattle.records.specs.declared.services.Services.{Services}
-use Rattle.state.specs.State.{made}
 use Rattle.state.specs.declared.attempts.Attempts.{Attempts}
 use Rattle.state.specs.declared.attempts.Retries.{Retries}
 use Rattle.input.specs.Input.{Verdict, verdict_of}
@@ -93,7 +92,7 @@ pub body-step : (m : Machine) (now : ℕ) (body : List ℕ) (r : Result (Event �
 unfolding step_of read_body
 body-step m now body r e = ap (λ x. step_by m now (reading.next x (λ v end. read (told_by body v) end))) (sym e) ∙ read_step m now body r
 
--- The loop's parts as a machine
+-- The machine, part by part
 abbrev pub parts : Rules → Timing → Alts → IdGenerator → Queries → Answers → Services → Attempts → Retries → Names → Echs → Machine
 parts r t l ids q d s a retries n e =
     record { rules = r; timing = t; alts = l; ids = ids; queries = q; answers = d; services = s; attempts = a; retries = retries; names = n; echs = e }
@@ -194,11 +193,6 @@ turn-same m now alike e =
     ap (λ c. turn_by (same_class c.names) (alike_endpoints c.hosts c.echs) m now) e
     ∙ (ap (λ same. turn_by same (alike_endpoints (same_hosts_of m.names) (same_echs_of m.echs)) m now) (classes-same m.names)
     ∙ ap (λ x. turn_by (same_at m.names) x m now) (alike-bytes m.names m.echs))
-
--- at the loop's start its parts are the made machine's
-pub made-parts : (r : Rules) (t : Timing) (l : Alts) (n : Names) (m : Machine) → m ≡ made r t l n → parts r t l m.ids m.queries m.answers m.services m.attempts m.retries m.names m.echs ≡ made r t l n
-unfolding made
-made-parts r t l n m e = ap (λ x. parts r t l x.ids x.queries x.answers x.services x.attempts x.retries x.names x.echs) e
 
 -- the wish by way of a survey, and what is given for it
 pub turn-seen : (same : Same) (alike : next.Alike) (m : Machine) (now : ℕ) {seen : Survey} {f : Found} {w : Wish} {turn : Turn} → seen ≡ survey_of m.rules m.timing m.alts.count m.queries m.services m.attempts m.retries.count now

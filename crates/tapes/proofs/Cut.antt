@@ -15,7 +15,8 @@ use Rattle.numbers.specs.declared.field.Span.{Span}
 use Rattle.numbers.proofs.Cases.{less-or-not}
 use Rattle.parts.proofs.Steps.{got-then}
 use Rattle.configuration.specs.Configuration.{setup_at}
-use Rattle.replay.specs.Frames.{Frame, body_at, frame_at}
+use Rattle.replay.specs.Frames.{body_at, frame_at}
+use Rattle.replay.specs.declared.frames.Frame.{Frame}
 use Rattle.replay.proofs.Framed.{frame-lies}
 use Rattle.tapes.specs.Events.{either, Given, on_setup, given_of, Event, place_of, event_of, events_from, Stop, stop_at, stop_from, frames_of, events_of, stop_of, before, ends, moved}
 use Rattle.tapes.specs.Claims.{Cut}

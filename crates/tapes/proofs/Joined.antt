@@ -21,7 +21,8 @@ use Rattle.bodies.specs.Told.{told_by, read_body}
 use Rattle.bodies.specs.declared.Event as body
 use Rattle.configuration.specs.Configuration.{setup_at}
 use Rattle.answers.specs.Answers.{Said, input, answer_bytes}
-use Rattle.replay.specs.Frames.{Frame, body_at, frame_at}
+use Rattle.replay.specs.Frames.{body_at, frame_at}
+use Rattle.replay.specs.declared.frames.Frame.{Frame}
 use Rattle.replay.specs.Replay.{Step, step_by, step_of}
 use Rattle.replay.proofs.Framed.{frame-lies}
 use Rattle.tapes.specs.Events.{either, Given, on_setup, given_of, Event, event_of, events_from, Stop, stop_at, stop_from, frames_of, frames_end, events_of, stop_of, moved, moved_end, body_fault, one_call, calls_in}

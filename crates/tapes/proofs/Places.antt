@@ -20,7 +20,8 @@ use Rattle.answers.specs.Answers.{answer_bytes}
 use Rattle.parts.specs.Reading.{Reading, read, fault}
 use Rattle.configuration.specs.Configuration.{setup_at}
 use Rattle.configuration.specs.declared.Setup.{Setup}
-use Rattle.replay.specs.Frames.{Frame, body_at, frame_at}
+use Rattle.replay.specs.Frames.{body_at, frame_at}
+use Rattle.replay.specs.declared.frames.Frame.{Frame}
 use Rattle.replay.specs.Replay.{Step, Run, step_of, ended, ahead}
 use Rattle.replay.proofs.Framed.{body-lies, frame-lies, then-got}
 use Rattle.numbers.specs.Fields.{span_bytes}

@@ -19,7 +19,8 @@ use Rattle.bodies.specs.Events.{event_at, fault_of}
 use Rattle.answers.specs.Answers.{answer_bytes}
 use Rattle.configuration.specs.Configuration.{setup_at}
 use Rattle.configuration.specs.declared.Setup.{Setup}
-use Rattle.replay.specs.Frames.{Frame, body_at, frame_at}
+use Rattle.replay.specs.Frames.{body_at, frame_at}
+use Rattle.replay.specs.declared.frames.Frame.{Frame}
 use Rattle.replay.specs.Check.{or_else, on_read, check_events, check_of}
 use Rattle.replay.specs.Replay.{step_of, Run, ended, on_frame, on_step, run, run_from, machine_of, replay_from, replay_of, on_body}
 use Rattle.replay.specs.Replay as replay

@@ -21,7 +21,8 @@ use Rattle.numbers.proofs.Steps.{there, whole, short}
 use Rattle.numbers.proofs.Cases.{less-or-not}
 use Rattle.parts.proofs.Steps.{got-then}
 use Rattle.parts.proofs.Copying.{span-length}
-use Rattle.replay.specs.Frames.{longest_body, body_at, Frame, frame_at}
+use Rattle.replay.specs.Frames.{longest_body, body_at, frame_at}
+use Rattle.replay.specs.declared.frames.Frame.{Frame}
 use Rattle.replay.proofs.Framed.{body-lies}
 
 -- a number ends behind its first byte

@@ -36,8 +36,8 @@ use Rattle.parts.specs.Rooms.{kept, name_in, ech_in}
 use Rattle.parts.specs.declared.address.Items.{Items}
 use Rattle.parts.proofs.Copying.{kept-few}
 use Rattle.offers.specs.Offers.{offer, target_name, ech_from, target_ech, brought, no_offered, offered_in}
-use Rattle.offers.specs.declared.EchSpan.{EchSpan}
-use Rattle.offers.specs.declared.EchSpan.TheVariants.{Without, Sealed}
+use Rattle.std.specs.Prelude.{Option, Some, None}
+use Rattle.numbers.specs.declared.field.Span.{Span}
 use Rattle.offers.specs.declared.Offer.{Offer}
 use Rattle.bodies.specs.Events.{event_at}
 use Rattle.bodies.specs.Told as told
@@ -121,9 +121,9 @@ target_fits : (s : List ℕ) (o : Offer) → NameFits (target_name s o)
 unfolding target_name
 target_fits s o = name-fits (kept longest_name s o.head.name) (kept-few s longest_name o.head.name)
 
-from-fits : (s : List ℕ) (x : EchSpan) → EchFits (ech_from s x)
-from-fits s Without = no-ech-fits
-from-fits s (Sealed b) = ech-fits (kept 512 s b) (kept-few s 512 b)
+from-fits : (s : List ℕ) (x : Option Span) → EchFits (ech_from s x)
+from-fits s None = no-ech-fits
+from-fits s (Some b) = ech-fits (kept 512 s b) (kept-few s 512 b)
 
 sealed-fits : (s : List ℕ) (o : Offer) → EchFits (target_ech s o)
 unfolding target_ech

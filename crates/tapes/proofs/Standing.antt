@@ -21,7 +21,8 @@ use Rattle.configuration.specs.declared.Setup.{Setup}
 use Rattle.written.proofs.Sound.{body-sound}
 use Rattle.written.proofs.SetupSound.{setup-stands}
 use Rattle.history.specs.Edition.{All}
-use Rattle.replay.specs.Frames.{Frame, body_at, frame_at}
+use Rattle.replay.specs.Frames.{body_at, frame_at}
+use Rattle.replay.specs.declared.frames.Frame.{Frame}
 use Rattle.replay.specs.Replay.{step_by, step_of}
 use Rattle.tapes.specs.Events.{either, Given, given_by, on_setup, given_of, Event, event_of, events_from, events_of, before}
 use Rattle.tapes.specs.Answered.{after, made_of}

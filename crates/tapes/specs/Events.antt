@@ -13,7 +13,8 @@ use Rattle.bodies.specs.Told.{Told, call, fed, read_body}
 use Rattle.configuration.specs.Configuration.{setup_at}
 use Rattle.configuration.specs.Filling.{configured_in}
 use Rattle.configuration.specs.declared.Setup.{Setup}
-use Rattle.replay.specs.Frames.{Frame, body_at, frame_at}
+use Rattle.replay.specs.Frames.{body_at, frame_at}
+use Rattle.replay.specs.declared.frames.Frame.{Frame}
 
 -- what was read goes on; else by the number of its refusal
 abbrev pub either : {A B : Type 0} → Got A → (ℕ → B) → (A → ℕ → B) → B

@@ -10,7 +10,7 @@ use Rattle.replay.specs.Replay.{step_of}
 use Rattle.replay.specs.Saying.{end_shown}
 use Rattle.replay.proofs.Framed.{frame-lies}
 use Rattle.replay.proofs.Steps.{few-calls}
-use Rattle.replay.proofs.Turning.{tied-start, tied-go, tied-end, tied-refused, tied-full, did-not, no-fit, stopped}
+use Rattle.replay.proofs.Turning.{tied-start, tied-next, tied-end, tied-refused, tied-full, did-not, no-fit, stopped}
 use Rattle.replay.proofs.run.run.Goals as goal
 
 as_clauses : {A B : Type 0} → A × B → record { numbers : A; bytes : B }
@@ -44,7 +44,7 @@ loop-done-preserved c =
     let step = ap (step_of c.loop-done.race c.in-Ok.f.moment) (sym (frame-lies _ _ _ _ came).bytes) in
     let after = IfOk-at_ok _ c.in-Ok-event.is c.event.ensures.after in
     record {
-      tied = rw (after.0, after.1) (tied-go _ _ _ _ _ _ _ _ _ came step c.loop-done.invariant.tied c.loop-done-test.true (sym (ap end_shown c.in-Ok-event.is) ∙ c.event.ensures.answer) c.event.ensures.bytes);
+      tied = tied-next _ _ _ _ _ _ _ _ _ came step c.loop-done.invariant.tied c.loop-done-test.true after.0 after.1 (sym (ap end_shown c.in-Ok-event.is) ∙ c.event.ensures.answer) c.event.ensures.bytes;
       sound = c.loop-done.invariant.sound;
     }
 
