@@ -1,30 +1,38 @@
 -- Laws of a report.
---     next-byte, last_byte     one byte stored is one byte less to store; after 8 none is left
+--     number_bytes             a number's 8 bytes are those of the library
 --     four-puts                four numbers put one behind the other
 --     other_length, reported   what is returned and left, by the report's length
-use mathlib.Core.Path.{◌≡◌, refl, ap, ◌∙◌}
-use mathlib.Core.List.{List, ◌++◌, append-nil}
-use Prim.Native.Nat.{ℕ, suc, ◌+◌, ◌-◌, ◌/◌, ◌%◌, ◌≤◌, ◌<◌}
+use mathlib.Core.Path.{◌≡◌, refl, sym, ap, ◌∙◌}
+use mathlib.Core.List.{List, ◌∷◌, ◌++◌, append-nil}
+use Prim.Native.Nat.{ℕ, zero, suc, ◌+◌, ◌/◌, ◌%◌, ◌^◌, ◌≤◌}
 use native.Mathlib.Omega.{arith}
 use borrow.Author.Tests.{eq-eqb, ne_eqb}
-use lib.ListN.{length, set, drop_of_length-le}
+use Rattle.std.proofs.Math.Nat.{div-one, div-div-eq-div-mul, pow-suc}
+use Rattle.std.specs.Int.{w64, byte_at, bytes_low_first, to_le_bytes}
+use lib.ListN.{length, drop_of_length-le}
 use lib.Seq.{sets, sets-eq}
 use Rattle.numbers.specs.Refusals.{no_room}
-use Rattle.numbers.proofs.PutLaws.{store}
 use Rattle.replay.specs.Replay.{Run, replay_of, Gives}
 use Rattle.replay.specs.declared.run.Replayed.{Replayed}
 use Rattle.braidhatch.specs.Report.{low_first, four_numbers, report_bytes, replay_status, answers_after, report_after}
 
-module _ (out : List ℕ) (at k rest : ℕ) (target : List ℕ) (e : sets out (at + k) (low_first (8 - k) rest) ≡ target) where
-  pub next-byte : k < 8 → sets (set out (at + k) (rest % 256)) (at + (k + 1)) (low_first (8 - (k + 1)) (rest / 256)) ≡ target
-  unfolding low_first
-  next-byte h =
-      let f : 8 - k ≡ suc (8 - (k + 1)) = omega arith in
-      store out at k (rest % 256) (low_first (8 - (k + 1)) (rest / 256)) target (rw f at e)
+byte-at : (i n : ℕ) → byte_at i n ≡ n / 256 ^ i % 256
+byte-at zero n = sym (ap (λ x. x % 256) (div-one n))
+byte-at (suc i) n = refl
 
-  pub last_byte : 8 ≤ k → out ≡ target
-  unfolding low_first
-  last_byte h = let f : 8 - k ≡ 0 = omega arith in rw f at e
+bytes-from : (i k n : ℕ) → low_first k (n / 256 ^ i) ≡ bytes_low_first i k n
+unfolding low_first
+bytes-from i zero n = refl
+bytes-from i (suc k) n =
+    let e : n / 256 ^ i / 256 ≡ n / 256 ^ suc i = div-div-eq-div-mul n (256 ^ i) 256 ∙ ap (λ x. n / x) (sym (pow-suc 256 i)) in
+    rw (byte-at i n, e) (ap (λ l. n / 256 ^ i % 256 ∷ l) (bytes-from (suc i) k n))
+
+pub number_bytes : (n : ℕ) → to_le_bytes w64 n ≡ low_first 8 n
+number_bytes n = sym (ap (low_first 8) (sym (div-one n)) ∙ bytes-from 0 8 n)
+
+pub eight : (n : ℕ) → length (low_first 8 n) ≡ 8
+unfolding low_first
+eight n = refl
 
 pub four-puts : (l : List ℕ) (s p w c : ℕ) {y₁ y₂ y₃ y₄ : List ℕ} → y₁ ≡ sets l 0 (low_first 8 s) → y₂ ≡ sets y₁ 8 (low_first 8 p) → y₃ ≡ sets y₂ 16 (low_first 8 w)
     → y₄ ≡ sets y₃ 24 (low_first 8 c) → y₄ ≡ sets l 0 (four_numbers s p w c)

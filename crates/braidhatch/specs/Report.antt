@@ -1,4 +1,4 @@
--- The C entry of replay (document 01, part 8): what it returns, and what it leaves in the two slices that it is lent.
+-- The C entry of replay (rules 8.8 and F.6): what it returns, and what it leaves in the two slices that it is lent.
 use Rattle.std.specs.Prelude.{ℕ, zero, suc, ◌/◌, ◌%◌, cond, List, [], ◌∷◌, ◌++◌, nat_eq, length}
 use Rattle.std.proofs.lemmas.List.Edits.{sets}
 use Rattle.numbers.specs.Refusals.{no_room}

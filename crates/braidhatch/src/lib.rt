@@ -1,5 +1,5 @@
 #![tactic(auto)]
-// The shell's C entries (document 01, part 8), over numbers and byte slices alone. include/braidhatch.h says in C what stands here.
+// The shell's C entries (rules 8.8 and F.6), over numbers and byte slices alone. include/braidhatch.h says in C what stands here.
 ghost use Rattle.std.specs.Prelude.{◌≡◌, ◌+◌, ◌≤◌, length};
 ghost use Rattle.std.proofs.lemmas.List.Edits.{sets};
 ghost use Rattle.pacing.specs.Pacing.{delay_of};
@@ -16,13 +16,7 @@ fn put_number(report: &mut [u8], at: usize, n: u64)
     requires { at + 8 ≤ length report.old }
     ensures { report.new ≡ sets report.old at (low_first 8 n) }
 {
-    let mut rest = n;
-    let mut k: usize = 0;
-    while k < 8 {
-        report[at + k] = (rest % 256) as u8;
-        rest = rest / 256;
-        k += 1;
-    }
+    report[at..at + 8].copy_from_slice(&n.to_le_bytes());
 }
 
 fn put_report(report: &mut [u8], r: Replayed)

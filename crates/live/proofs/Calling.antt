@@ -8,8 +8,7 @@ use lib.ListN.{length, get_or}
 use borrow.Author.Tests.{le-leb, lt-leb}
 use Rattle.numbers.specs.Put.{put_answer}
 use Rattle.numbers.specs.Shown.{wrote_shown}
-use Rattle.numbers.specs.declared.put.Wrote.{Wrote}
-use Rattle.numbers.specs.declared.put.Wrote.TheVariants as wrote
+use Rattle.std.specs.Prelude.{Result, Ok, Err}
 use Rattle.numbers.specs.declared.refusal.Refusal.{Refusal}
 use Rattle.numbers.specs.declared.refusal.Refusal.TheVariants.{NoRoom}
 use Rattle.numbers.proofs.Cases.{less-or-not}
@@ -41,30 +40,30 @@ bytes-said m now s np ep e f g =
     ap answer_bytes (said_in_lem m (answer.Output s.output) np ep f g) ∙ ap (λ (x : OutputStep). answer_bytes (said_of m.names m.echs x.output)) e
 
 -- the machine after a write: the one of before where it was refused
-abbrev pub after_write : (before after : Machine) → Wrote → Machine
-after_write before after (wrote.Next end) = after
-after_write before after (wrote.Refused e) = before
+abbrev pub after_write : (before after : Machine) → Result ℕ Refusal → Machine
+after_write before after (Ok end) = after
+after_write before after (Err e) = before
 
 module _ (m : Machine) (now : ℕ) (out : List ℕ) where
-  fits : length (called_bytes m now) ≤ length out → called_of m now (length out) ≡ record { wrote = wrote.Next (length (called_bytes m now)); machine = (output_step m now).machine }
+  fits : length (called_bytes m now) ≤ length out → called_of m now (length out) ≡ record { wrote = Ok (length (called_bytes m now)); machine = (output_step m now).machine }
   unfolding called_of
   fits h = rw (le-leb _ _ h)
 
-  full : length out < length (called_bytes m now) → called_of m now (length out) ≡ record { wrote = wrote.Refused NoRoom; machine = m }
+  full : length out < length (called_bytes m now) → called_of m now (length out) ≡ record { wrote = Err NoRoom; machine = m }
   unfolding called_of
   full h = rw (lt-leb _ _ h)
 
-  whole : (w : Wrote) → wrote_shown w ≡ put_answer out 0 (called_bytes m now) → record { wrote = w; machine = after_write m (output_step m now).machine w } ≡ called_of m now (length out)
+  whole : (w : Result ℕ Refusal) → wrote_shown w ≡ put_answer out 0 (called_bytes m now) → record { wrote = w; machine = after_write m (output_step m now).machine w } ≡ called_of m now (length out)
   whole w p =
       ⊎_elim (λ (h : length out < length (called_bytes m now)).
-      let e : w ≡ wrote.Refused NoRoom = wrote-settled w (wrote.Refused NoRoom) (p ∙ sym (no_room_lem out 0 (called_bytes m now) (omega arith)).0) in rw (e, full h) refl)
+      let e : w ≡ Err NoRoom = wrote-settled w (Err NoRoom) (p ∙ sym (no_room_lem out 0 (called_bytes m now) (omega arith)).0) in rw (e, full h) refl)
       (λ (h : length (called_bytes m now) ≤ length out).
-      let e : w ≡ wrote.Next (0 + length (called_bytes m now)) = wrote-settled w (wrote.Next (0 + length (called_bytes m now))) (p ∙ sym (room out 0 (called_bytes m now) (omega arith)).0) in
+      let e : w ≡ Ok (0 + length (called_bytes m now)) = wrote-settled w (Ok (0 + length (called_bytes m now))) (p ∙ sym (room out 0 (called_bytes m now) (omega arith)).0) in
       let z : 0 + length (called_bytes m now) ≡ length (called_bytes m now) = omega arith in rw (e, z, fits h) refl)
       (less-or-not (length out) (length (called_bytes m now)))
 
-  pub was-full : (w : Wrote) {e : Refusal} → w ≡ wrote.Refused e → wrote_shown w ≡ put_answer out 0 (called_bytes m now) → record { wrote = w; machine = m } ≡ called_of m now (length out)
+  pub was-full : (w : Result ℕ Refusal) {e : Refusal} → w ≡ Err e → wrote_shown w ≡ put_answer out 0 (called_bytes m now) → record { wrote = w; machine = m } ≡ called_of m now (length out)
   was-full w k p = ap (λ x. record { wrote = w; machine = x }) (sym (ap (after_write m (output_step m now).machine) k)) ∙ whole w p
 
-  pub was-written : (w : Wrote) {end : ℕ} → w ≡ wrote.Next end → wrote_shown w ≡ put_answer out 0 (called_bytes m now) → record { wrote = w; machine = (output_step m now).machine } ≡ called_of m now (length out)
+  pub was-written : (w : Result ℕ Refusal) {end : ℕ} → w ≡ Ok end → wrote_shown w ≡ put_answer out 0 (called_bytes m now) → record { wrote = w; machine = (output_step m now).machine } ≡ called_of m now (length out)
   was-written w k p = ap (λ x. record { wrote = w; machine = x }) (sym (ap (after_write m (output_step m now).machine) k)) ∙ whole w p

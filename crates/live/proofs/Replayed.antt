@@ -9,7 +9,7 @@ use mathlib.Core.List.{List}
 use lib.ListN.{length}
 use borrow.Author.Tests.{le-leb, lt-leb}
 use Rattle.numbers.specs.Refusals.{out_of_range}
-use Rattle.numbers.specs.declared.put.Wrote.TheVariants as wrote
+use Rattle.std.specs.Prelude.{Ok, Err}
 use Rattle.numbers.specs.declared.refusal.Refusal.TheVariants.{NoRoom}
 use Rattle.state.specs.declared.Machine.{Machine}
 use Rattle.parts.specs.Reading.{Reading, read, fault}
@@ -48,11 +48,11 @@ module _ (m : Machine) (now : ℕ) (body : List ℕ) where
 
 -- the answer of a call is the bytes of what replay says
 module _ (m : Machine) (now room : ℕ) where
-  pub call_fits : length (answer_bytes (call_step m now).said) ≤ room → called_of m now room ≡ record { wrote = wrote.Next (length (answer_bytes (call_step m now).said)); machine = (call_step m now).machine }
+  pub call_fits : length (answer_bytes (call_step m now).said) ≤ room → called_of m now room ≡ record { wrote = Ok (length (answer_bytes (call_step m now).said)); machine = (call_step m now).machine }
   unfolding called_of called_bytes
   call_fits h = rw (le-leb _ _ h)
 
-  pub call-full : room < length (answer_bytes (call_step m now).said) → called_of m now room ≡ record { wrote = wrote.Refused NoRoom; machine = m }
+  pub call-full : room < length (answer_bytes (call_step m now).said) → called_of m now room ≡ record { wrote = Err NoRoom; machine = m }
   unfolding called_of called_bytes
   call-full h = rw (lt-leb _ _ h)
 

@@ -1,8 +1,7 @@
--- The live calls (document 01, part 7 and "Forms"): what a body that is fed, and a call, leave and answer. Replay's events are these
+-- The live calls (rules 7.1 and F.8): what a body that is fed, and a call, leave and answer. Replay's events are these
 -- (proofs/Replayed.antt).
-use Rattle.std.specs.Prelude.{ℕ, Bool, true, false, cond, List, nat_le, length}
+use Rattle.std.specs.Prelude.{ℕ, Bool, true, false, cond, List, nat_le, length, Ok, Err}
 use Rattle.numbers.specs.Refusals.{out_of_range}
-use Rattle.numbers.specs.declared.put.Wrote.TheVariants as wrote
 use Rattle.numbers.specs.declared.refusal.Refusal.TheVariants.{NoRoom}
 use Rattle.state.specs.declared.Machine.{Machine}
 use Rattle.machine.specs.declared.calls.InputStep.{InputStep}
@@ -42,7 +41,7 @@ called_bytes m now = answer_bytes (said_of m.names m.echs (output_step m now).ou
 -- a call that is answered in a buffer of `room` bytes; where the answer doesn't fit it is 13, and no call was made
 unfoldable pub called_of : Machine → (now room : ℕ) → live.Called
 called_of m now room =
-    cond (nat_le (length (called_bytes m now)) room) (record { wrote = wrote.Next (length (called_bytes m now)); machine = (output_step m now).machine }) (record { wrote = wrote.Refused NoRoom; machine = m })
+    cond (nat_le (length (called_bytes m now)) room) (record { wrote = Ok (length (called_bytes m now)); machine = (output_step m now).machine }) (record { wrote = Err NoRoom; machine = m })
 
 -- Beside replay: whether a body is the call's, and the step of a tape that is made by feeding a body, and by a call
 

@@ -1,5 +1,5 @@
 #![tactic(auto)]
-// The live machine: a shell makes it from a configuration, holds it, and lends it to the two calls here (document 01, part 7 and "Forms").
+// The live machine: a shell makes it from a configuration, holds it, and lends it to the two calls here (rules 7.1 and F.8).
 ghost use Rattle.std.specs.Prelude.{◌≡◌, length};
 ghost use Rattle.numbers.specs.Put.{put_bytes};
 ghost use Rattle.replay.specs.Replay.{machine_of};
@@ -8,10 +8,9 @@ ghost use Rattle.bodies.specs.Told.{input_of, beside_of, told_by};
 ghost use Rattle.live.specs.Live.{taken, fed_with, fed_of, called_bytes, called_of};
 
 use answers::writer::{output_ech, output_name, put_output};
-use bodies::{Event, EventRead, beside_of, input_of, read_event};
+use bodies::{Event, beside_of, input_of, read_event};
 use configuration::{Setup, fill_configuration};
 use machine::calls::Taken;
-use numbers::put::Wrote;
 use numbers::refusal::{Refusal, refusal_number};
 use state::{Machine, made};
 
@@ -27,18 +26,17 @@ pub struct Fed {
 // How much of an answer was written, and the machine after the call.
 #[derive(Clone, Copy)]
 pub struct Called {
-    pub wrote: Wrote,
+    pub wrote: Result<usize, Refusal>,
     pub machine: Machine,
 }
 
 // The machine of a configuration that was read. One that is refused has no `Setup`, so it makes none.
+#[tactic(auto, unfolding(replay::specs::Replay::machine_of))]
 pub fn machine_of(body: &[u8], setup: Setup) -> Machine
     ensures { result ≡ machine_of body.now setup }
 {
     let c = fill_configuration(body, setup);
-    let alts = c.alts;
-    let names = c.names;
-    made(setup.rules, setup.timing, alts, names)
+    made(setup.rules, setup.timing, c.alts, c.names)
 }
 
 // An input that was read.
@@ -48,14 +46,13 @@ fn input_fed(m: Machine, moment: u64, body: &[u8], e: Event) -> Fed
     let input = input_of(e);
     let beside = beside_of(body, e);
     let step = machine::calls::process_input(m, moment, input, beside);
-    let taken = step.taken;
-    let machine = step.machine;
-    match taken {
-        Taken::Accepted => Fed { number: 0, machine },
-        Taken::Refused(e) => Fed {
-            number: refusal_number(e),
-            machine,
-        },
+    let number = match step.taken {
+        Taken::Accepted => 0,
+        Taken::Refused(e) => refusal_number(e),
+    };
+    Fed {
+        number,
+        machine: step.machine,
     }
 }
 
@@ -76,13 +73,12 @@ fn event_fed(m: Machine, moment: u64, body: &[u8], e: Event) -> Fed
 pub fn feed(m: Machine, moment: u64, body: &[u8]) -> Fed
     ensures { result ≡ fed_of m moment body.now }
 {
-    let r = read_event(body);
-    match r {
-        EventRead::Refused(e, _) => Fed {
-            number: refusal_number(e),
+    match read_event(body) {
+        Err(f) => Fed {
+            number: refusal_number(f.refusal),
             machine: m,
         },
-        EventRead::Event(e, _) => event_fed(m, moment, body, e),
+        Ok((e, _)) => event_fed(m, moment, body, e),
     }
 }
 
@@ -102,8 +98,8 @@ pub fn call(m: Machine, moment: u64, out: &mut [u8]) -> Called
     let ech = echs.list[ep];
     let wrote = put_output(out, 0, output, origin, name, ech);
     match wrote {
-        Wrote::Refused(_) => Called { wrote, machine: m },
-        Wrote::Next(_) => Called { wrote, machine },
+        Err(_) => Called { wrote, machine: m },
+        Ok(_) => Called { wrote, machine },
     }
 }
 
@@ -111,18 +107,16 @@ pub fn call(m: Machine, moment: u64, out: &mut [u8]) -> Called
 pub fn process_input(m: &mut Machine, moment: u64, body: &[u8]) -> u8
     ensures { (result ≡ (fed_of m.old moment body.now).number) × (m.new ≡ (fed_of m.old moment body.now).machine) }
 {
-    let whole = *m;
-    let after = feed(whole, moment, body);
+    let after = feed(*m, moment, body);
     *m = after.machine;
     after.number
 }
 
 // A call to the machine that is lent: how many bytes of `out` its answer takes; or 13, and then the machine and `out` are as they were.
-pub fn process_output(m: &mut Machine, moment: u64, out: &mut [u8]) -> Wrote
+pub fn process_output(m: &mut Machine, moment: u64, out: &mut [u8]) -> Result<usize, Refusal>
     ensures { (result ≡ (called_of m.old moment (length out.old)).wrote) × (m.new ≡ (called_of m.old moment (length out.old)).machine) × (out.new ≡ put_bytes out.old 0 (called_bytes m.old moment)) }
 {
-    let whole = *m;
-    let after = call(whole, moment, out);
+    let after = call(*m, moment, out);
     *m = after.machine;
     after.wrote
 }

@@ -7,12 +7,31 @@ use lib.ListN.{length}
 use borrow.Author.Tests.{le-leb, lt-leb, eq-eqb, ne_eqb}
 use Rattle.numbers.specs.Fields.{span_bytes}
 use Rattle.numbers.specs.Got.{got, refused}
+use Rattle.numbers.specs.Refusals.{refusal_number}
+use Rattle.numbers.specs.declared.refusal.Refusal.{Refusal}
+use Rattle.numbers.specs.declared.refusal.Refusal.TheVariants.{Cut, BadNumber, OutOfRange, BadName, TooMany, Trailing, UnknownId, AlreadyAnswered, WrongType, StaleRefresh, EchNotSent, AlreadyEnded, NoRoom}
 use Rattle.bodies.specs.Events.{event_at, fault_of}
 use Rattle.numbers.specs.declared.field.Span.{Span}
 use Rattle.configuration.specs.Configuration.{setup_at}
 use Rattle.replay.specs.Check.{check_events, check_of}
 use Rattle.replay.specs.Frames.{Frame, body_at, frame_at}
 use Rattle.replay.proofs.Framed.{frame-lies}
+
+-- no refusal has the number 0
+pub some-number : (e : Refusal) → refusal_number e ≡ 0 → ⊥
+some-number Cut h = omega (arith, h)
+some-number BadNumber h = omega (arith, h)
+some-number OutOfRange h = omega (arith, h)
+some-number BadName h = omega (arith, h)
+some-number TooMany h = omega (arith, h)
+some-number Trailing h = omega (arith, h)
+some-number UnknownId h = omega (arith, h)
+some-number AlreadyAnswered h = omega (arith, h)
+some-number WrongType h = omega (arith, h)
+some-number StaleRefresh h = omega (arith, h)
+some-number EchNotSent h = omega (arith, h)
+some-number AlreadyEnded h = omega (arith, h)
+some-number NoRoom h = omega (arith, h)
 
 -- `left` events at most are left, and they say what all of them say
 pub record Left (tape : List ℕ) (at all : ℕ) : Type 0 where

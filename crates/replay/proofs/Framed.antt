@@ -1,6 +1,8 @@
 -- A frame takes a byte at least, and its body lies in the tape, at its end; the configuration's likewise.
 use Prim.Native.Nat.{ℕ, zero, suc, ◌+◌, ◌-◌, ◌*◌, ◌%◌, ◌≤◌, ◌<◌}
 use mathlib.Core.Path.{◌≡◌, refl, ap, ◌∙◌}
+use mathlib.Core.Logic.{⊎_elim}
+use borrow.Author.Tests.{le-leb, lt-leb}
 use mathlib.Core.Bool.{Bool, true, false, cond}
 use mathlib.Core.List.{List, [], ◌∷◌}
 use native.Mathlib.Omega.{arith}
@@ -9,9 +11,9 @@ use lib.ListN.{length, take, drop}
 use Rattle.numbers.specs.Got.{Got, got, refused, and_then}
 use Rattle.numbers.specs.Fields.{at_most, bytes_at, span_bytes}
 use Rattle.numbers.specs.Numbers.{read_number, groups, below}
-use Rattle.numbers.specs.Refusals.{bad_number, out_of_range}
+use Rattle.numbers.specs.Refusals.{bad_number, out_of_range, cut}
 use Rattle.numbers.specs.declared.field.Span.{Span}
-use Rattle.numbers.proofs.Steps.{there}
+use Rattle.numbers.proofs.Cases.{less-or-not}
 use Rattle.replay.specs.Frames.{longest_body, body_at, Frame, frame_at}
 
 -- the place after what was read, or else the next one
@@ -38,6 +40,23 @@ groups-past (suc k) at (b ∷ s) = past-cond at (nat_lt b 128) (got b (at + 1)) 
 number_past : (s : List ℕ) (at : ℕ) → at < past at (read_number s at)
 unfolding read_number
 number_past s at = groups-past 9 at (drop at s)
+
+-- where bytes that were read lie
+record There (s : List ℕ) (n p : ℕ) (b : Span) (next : ℕ) : Type 0 where
+  pub span : b ≡ record { start = p; len = n }
+  pub after : next ≡ p + n
+  pub inside : p + n ≤ length s
+
+bytes-is : (s : List ℕ) (n p : ℕ) → bytes_at s n p ≡ cond (nat_le (p + n) (length s)) (got (record { start = p; len = n }) (p + n)) (refused cut)
+unfolding bytes_at
+bytes-is s n p = refl
+
+there : (s : List ℕ) (n p : ℕ) {b : Span} {next : ℕ} → got b next ≡ bytes_at s n p → There s n p b next
+there s n p {b} {next} e =
+    let t = e ∙ bytes-is s n p in
+    ⊎_elim (λ (h : length s < p + n). absurd (let c : got b next ≡ refused cut = rw (lt-leb (p + n) (length s) h) at t in let z : ◌≡◌ {A = ℕ} 0 1 = cc in omega arith))
+    (λ (h : p + n ≤ length s). let c : got b next ≡ got (record { start = p; len = n }) (p + n) = rw (le-leb (p + n) (length s) h) at t in record { span = cc; after = cc; inside = h })
+    (less-or-not (length s) (p + n))
 
 -- where the body of a frame lies
 pub record Lies (s : List ℕ) (at : ℕ) (b : Span) (next : ℕ) : Type 0 where

@@ -1,25 +1,23 @@
 -- What the readers of frames and of a configuration show settles what they give: any two answers that meet one promise are equal.
-use mathlib.Core.Path.{◌≡◌, ap}
-use Rattle.numbers.proofs.Settled.{refusal-settled}
-use Rattle.configuration.specs.Shown.{setup_shown}
-use Rattle.configuration.specs.declared.SetupRead as setup
-use Rattle.configuration.specs.declared.SetupRead.TheVariants as setups
-use Rattle.replay.specs.Frames.{Frame, frame_shown}
-use Rattle.replay.specs.declared.frames.FrameRead as frame
-use Rattle.replay.specs.declared.frames.FrameRead.TheVariants as frames
+use Prim.Native.Nat.{ℕ}
+use mathlib.Core.Path.{◌≡◌}
+use Rattle.std.specs.Prelude.{Result, Ok, Err}
+use Rattle.numbers.specs.Shown as numbers
+use Rattle.numbers.specs.declared.refusal.Refusal.{Refusal}
+use Rattle.numbers.proofs.Settled.{refusal-settled, settled}
+use Rattle.parts.specs.Shown.{shown}
+use Rattle.parts.specs.declared.reading.Fault.{Fault}
+use Rattle.configuration.specs.declared.Setup.{Setup}
+use Rattle.replay.specs.Frames.{Frame}
 
-pub frame-settled : (a b : frame.FrameRead) → frame_shown a ≡ frame_shown b → a ≡ b
-frame-settled (frames.Frame t x p) (frames.Frame u y q) e =
-    let f : ◌≡◌ {A = Frame} (record { moment = t; body = x }) (record { moment = u; body = y }) = cc in
-    let m = ap (λ (z : Frame). z.moment) f in
-    let b = ap (λ (z : Frame). z.body) f in
-    cc
-frame-settled (frames.Frame t x p) (frames.Refused b) e = cc
-frame-settled (frames.Refused a) (frames.Frame u y q) e = cc
-frame-settled (frames.Refused a) (frames.Refused b) e = ap frames.Refused (refusal-settled a b (cc))
+pub frame-settled : (a b : Result (Frame × ℕ) Refusal) → numbers.shown a ≡ numbers.shown b → a ≡ b
+frame-settled a b e = settled a b e
 
-pub setup-settled : (a b : setup.SetupRead) → setup_shown a ≡ setup_shown b → a ≡ b
-setup-settled (setups.Setup x p) (setups.Setup y q) e = cc
-setup-settled (setups.Setup x p) (setups.Refused b q) e = cc
-setup-settled (setups.Refused a p) (setups.Setup y q) e = cc
-setup-settled (setups.Refused a p) (setups.Refused b q) e = let r = refusal-settled a b cc in cc
+pub setup-settled : (a b : Result (Setup × ℕ) Fault) → shown a ≡ shown b → a ≡ b
+setup-settled (Ok (x, p)) (Ok (y, q)) e = cc
+setup-settled (Ok (x, p)) (Err b) e = cc
+setup-settled (Err a) (Ok (y, q)) e = cc
+setup-settled (Err a) (Err b) e =
+    let r = refusal-settled a.refusal b.refusal cc in
+    let p : a.place ≡ b.place = cc in
+    λ j. Err (record { refusal = r j; place = p j })

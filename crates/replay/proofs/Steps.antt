@@ -5,12 +5,13 @@ use mathlib.Core.Path.{◌≡◌, refl, sym, ap, ◌∙◌}
 use mathlib.Core.Logic.{⊎_elim}
 use mathlib.Core.Bool.{Bool, true, false, cond, ◌&&◌}
 use mathlib.Core.List.{List}
+use Rattle.std.specs.Prelude.{Result, Ok, Err}
 use lib.Dec.{ltb as nat_lt}
 use lib.ListN.{get_or, set}
 use borrow.Author.Tests.{lt-ltb, le-ltb}
 use Rattle.numbers.proofs.Cases.{less-or-not}
 use Rattle.records.specs.Classes.{same_class}
-use Rattle.records.specs.Names.{same_at, name_bytes, name_at, name_bytes_at, blank_name, ech_bytes, ech_at, ech_bytes_at, blank_ech, with_ech}
+use Rattle.records.specs.Names.{same_at, name_bytes, name_at, blank_name, ech_bytes, ech_at, blank_ech, with_ech}
 use Rattle.upcoming.specs.Alike.{same_hosts_of, same_echs_of, alike_endpoints, alike_of}
 use Rattle.upcoming.specs.Next as next
 use Rattle.upcoming.specs.declared.alike.Alike as classes
@@ -22,12 +23,9 @@ use Rattle.records.specs.declared.rules.Rules.{Rules}
 use Rattle.records.specs.declared.rules.Timing.{Timing}
 use Rattle.records.specs.declared.rules.Alts.{Alts}
 use Rattle.records.specs.Services.{no_services}
-use Rattle.records.specs.declared.queries.Query.{Query}
 use Rattle.records.specs.declared.queries.Queries.{Queries}
 use Rattle.records.specs.declared.queries.Answers.{Answers}
 use Rattle.records.specs.declared.services.Services.{Services}
-use Rattle.state.specs.State.{made}
-use Rattle.state.specs.declared.attempts.Attempt.{Attempt}
 use Rattle.state.specs.declared.attempts.Attempts.{Attempts}
 use Rattle.state.specs.declared.attempts.Retries.{Retries}
 use Rattle.input.specs.Input.{verdict_of}
@@ -52,17 +50,15 @@ use Rattle.machine.specs.Steps.{survey_of, turn_of, judged, change_of, output_st
 use Rattle.records.proofs.Classes.{classes-same}
 use Rattle.machine.proofs.Looking.{alike-bytes}
 use Rattle.machine.proofs.Way.{wish-seen}
+use Rattle.parts.specs.Shown.{shown}
+use Rattle.parts.specs.declared.reading.Fault.{Fault}
 use Rattle.parts.specs.Reading.{Reading, read, fault}
 use Rattle.parts.specs.Reading as reading
 use Rattle.bodies.specs.Events.{event_at}
-use Rattle.bodies.specs.Shown.{event_shown}
 use Rattle.bodies.specs.Told.{Told, input_of, read_body, beside_of, told_by}
 use Rattle.bodies.specs.Told as told
 use Rattle.bodies.specs.declared.Event.{Event}
 use Rattle.bodies.specs.declared.Event.TheVariants as event
-use Rattle.bodies.specs.declared.EventRead.{EventRead}
-use Rattle.bodies.specs.declared.EventRead.TheVariants as reads
-use Rattle.answers.specs.Answers.{Said}
 use Rattle.answers.specs.Outputs.{said_of, named_at, output_name, sealed_at, output_ech}
 use Rattle.replies.specs.declared.Answer.{Answer}
 use Rattle.replies.specs.declared.Answer.TheVariants as answer
@@ -89,16 +85,16 @@ event-step m now end body (event.Success id) = refl
 event-step m now end body (event.Failure id) = refl
 event-step m now end body (event.EchRetry id b) = refl
 
-read_step : (m : Machine) (now : ℕ) (body : List ℕ) (r : EventRead) → step_by m now (reading.next (event_shown r) (λ e end. read (told_by body e) end)) ≡ step_in m (reply_by (turn_of m now) (judged m now) r) (beside_of body (event_in r))
-read_step m now body (reads.Event e end) = event-step m now end body e
-read_step m now body (reads.Refused e p) = refl
+read_step : (m : Machine) (now : ℕ) (body : List ℕ) (r : Result (Event × ℕ) Fault) → step_by m now (reading.next (shown r) (λ e end. read (told_by body e) end)) ≡ step_in m (reply_by (turn_of m now) (judged m now) r) (beside_of body (event_in r))
+read_step m now body (Ok (e, end)) = event-step m now end body e
+read_step m now body (Err f) = refl
 
 -- the step of a body that was read
-pub body-step : (m : Machine) (now : ℕ) (body : List ℕ) (r : EventRead) → event_shown r ≡ event_at body → step_of m now body ≡ step_in m (reply_by (turn_of m now) (judged m now) r) (beside_of body (event_in r))
+pub body-step : (m : Machine) (now : ℕ) (body : List ℕ) (r : Result (Event × ℕ) Fault) → shown r ≡ event_at body → step_of m now body ≡ step_in m (reply_by (turn_of m now) (judged m now) r) (beside_of body (event_in r))
 unfolding step_of read_body
 body-step m now body r e = ap (λ x. step_by m now (reading.next x (λ v end. read (told_by body v) end))) (sym e) ∙ read_step m now body r
 
--- The loop's parts as a machine
+-- The machine, part by part
 abbrev pub parts : Rules → Timing → Alts → IdGenerator → Queries → Answers → Services → Attempts → Retries → Names → Echs → Machine
 parts r t l ids q d s a retries n e =
     record { rules = r; timing = t; alts = l; ids = ids; queries = q; answers = d; services = s; attempts = a; retries = retries; names = n; echs = e }
@@ -200,11 +196,6 @@ turn-same m now alike e =
     ∙ (ap (λ same. turn_by same (alike_endpoints (same_hosts_of m.names) (same_echs_of m.echs)) m now) (classes-same m.names)
     ∙ ap (λ x. turn_by (same_at m.names) x m now) (alike-bytes m.names m.echs))
 
--- at the loop's start its parts are the made machine's
-pub made-parts : (r : Rules) (t : Timing) (l : Alts) (n : Names) (m : Machine) → m ≡ made r t l n → parts r t l m.ids m.queries m.answers m.services m.attempts m.retries m.names m.echs ≡ made r t l n
-unfolding made
-made-parts r t l n m e = ap (λ x. parts r t l x.ids x.queries x.answers x.services x.attempts x.retries x.names x.echs) e
-
 -- the wish by way of a survey, and what is given for it
 pub turn-seen : (same : Same) (alike : next.Alike) (m : Machine) (now : ℕ) {seen : Survey} {f : Found} {w : Wish} {turn : Turn} → seen ≡ survey_of m.rules m.timing m.alts.count m.queries m.services m.attempts m.retries.count now
     → f ≡ found_by same alike seen.look seen.asks.asked m.rules m.alts m.queries m.answers m.services m.attempts m.retries → w ≡ wish_from m.rules m.timing seen.tries seen.asks f m.attempts.count now
@@ -218,7 +209,7 @@ turn_for m alike now = turn_by (same_class alike.names) (alike_endpoints alike.h
 abbrev pub verdict_for : Machine → ℕ → Input → Verdict
 verdict_for m now i = verdict_of m.rules.ech m.queries m.attempts m.retries.count i now
 
-abbrev pub Decides : Machine → classes.Alike → ℕ → EventRead → Reply → Type 0
+abbrev pub Decides : Machine → classes.Alike → ℕ → Result (Event × ℕ) Fault → Reply → Type 0
 Decides m alike now r x = x ≡ reply_by (turn_for m alike now) (verdict_for m now) r
 
 -- its change is proper: where services come or go, the record lies inside the table that the loop holds
@@ -245,25 +236,25 @@ event-proper m alike now (event.Success id) s = judged-proper m now (input_of (e
 event-proper m alike now (event.Failure id) s = judged-proper m now (input_of (event.Failure id)) s
 event-proper m alike now (event.EchRetry id b) s = judged-proper m now (input_of (event.EchRetry id b)) s
 
-read-proper : (m : Machine) (alike : classes.Alike) (now : ℕ) (r : EventRead) → Sized m.queries m.attempts → Proper (reply_by (turn_for m alike now) (verdict_for m now) r).change
-read-proper m alike now (reads.Event e end) s = event-proper m alike now e s
-read-proper m alike now (reads.Refused e p) s = tt
+read-proper : (m : Machine) (alike : classes.Alike) (now : ℕ) (r : Result (Event × ℕ) Fault) → Sized m.queries m.attempts → Proper (reply_by (turn_for m alike now) (verdict_for m now) r).change
+read-proper m alike now (Ok (e, end)) s = event-proper m alike now e s
+read-proper m alike now (Err f) s = tt
 
-pub reply-proper : (m : Machine) (alike : classes.Alike) (now : ℕ) (r : EventRead) {x : Reply} → Sized m.queries m.attempts → Decides m alike now r x → Proper x.change
+pub reply-proper : (m : Machine) (alike : classes.Alike) (now : ℕ) (r : Result (Event × ℕ) Fault) {x : Reply} → Sized m.queries m.attempts → Decides m alike now r x → Proper x.change
 reply-proper m alike now r s d = rw d (read-proper m alike now r s)
 
 -- the step of a body, as the loop comes to it
-pub step-made : (m : Machine) (alike : classes.Alike) (now : ℕ) (whole body : List ℕ) (r : EventRead) (e : Event) (reply : Reply) → alike ≡ alike_of m.names m.echs → whole ≡ body → event_shown r ≡ event_at body → e ≡ event_in r → Decides m alike now r reply → step_in m reply (beside_of body e) ≡ step_of m now whole
+pub step-made : (m : Machine) (alike : classes.Alike) (now : ℕ) (whole body : List ℕ) (r : Result (Event × ℕ) Fault) (e : Event) (reply : Reply) → alike ≡ alike_of m.names m.echs → whole ≡ body → shown r ≡ event_at body → e ≡ event_in r → Decides m alike now r reply → step_in m reply (beside_of body e) ≡ step_of m now whole
 unfolding judged
 step-made m alike now whole body r e reply c w h v k =
     rw (w, v, k, turn-same m now alike c) (sym (body-step m now body r h))
 
 -- the same of a race, whose classes are those of its tables
-pub race-proper : (m : Machine) (alike : classes.Alike) (now : ℕ) (r : EventRead) {x : Reply} → Kept m alike → x ≡ reply_by (turn_of m now) (judged m now) r → Proper x.change
+pub race-proper : (m : Machine) (alike : classes.Alike) (now : ℕ) (r : Result (Event × ℕ) Fault) {x : Reply} → Kept m alike → x ≡ reply_by (turn_of m now) (judged m now) r → Proper x.change
 unfolding judged
 race-proper m alike now r k d = reply-proper m alike now r k.sized (d ∙ ap (λ t. reply_by t (verdict_for m now) r) (sym (turn-same m now alike k.same)))
 
-pub race-step : (m : Machine) (now : ℕ) (body : List ℕ) (r : EventRead) {x : Reply} → event_shown r ≡ event_at body → x ≡ reply_by (turn_of m now) (judged m now) r → step_of m now body ≡ step_in m x (beside_of body (event_in r))
+pub race-step : (m : Machine) (now : ℕ) (body : List ℕ) (r : Result (Event × ℕ) Fault) {x : Reply} → shown r ≡ event_at body → x ≡ reply_by (turn_of m now) (judged m now) r → step_of m now body ≡ step_in m x (beside_of body (event_in r))
 race-step m now body r h d = body-step m now body r h ∙ ap (λ x. step_in m x (beside_of body (event_in r))) (sym d)
 
 -- what is written is what is said

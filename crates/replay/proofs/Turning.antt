@@ -1,7 +1,7 @@
 -- The loop's state tied to the run: what the run says from here on, behind what is written and counted, is what it says of the whole tape.
 --     tied-start      before the first event
 --     tied-go         one event more: the one law of every arm that goes on
---     tied_by, tied-answered, tied-offered, tied-retried      the parts as an arm stores them
+--     tied-next       the same, where the code counts the call and keeps the machine
 --     tied-end, tied-refused, tied-full      the three ways to stop
 --     stopped         what a stopped run gives back
 use Prim.Native.Nat.{ℕ, zero, suc, ◌+◌, ◌≤◌, ◌<◌}
@@ -19,30 +19,12 @@ use Rattle.numbers.specs.Put as put
 use Rattle.numbers.specs.Put.{put_answer, put_bytes}
 use Rattle.numbers.proofs.PutLaws.{no_room_lem, room}
 use Rattle.numbers.proofs.Cases.{less-or-not}
-use Rattle.pacing.specs.declared.id.IdGenerator.{IdGenerator}
-use Rattle.records.specs.Names.{with_ech}
-use Rattle.records.specs.declared.names.Ech.{Ech}
-use Rattle.records.specs.declared.names.Echs.{Echs}
-use Rattle.records.specs.declared.names.Names.{Names}
-use Rattle.records.specs.declared.queries.Addresses.{Addresses}
-use Rattle.records.specs.declared.queries.Query.{Query}
-use Rattle.records.specs.declared.services.Services.{Services}
 use Rattle.state.specs.declared.Machine.{Machine}
-use Rattle.state.specs.declared.attempts.Attempt.{Attempt}
-use Rattle.state.specs.declared.attempts.Retries.{Retries}
-use Rattle.state.specs.declared.changes.Round.{Round}
-use Rattle.after.specs.After.{put_retry, placed_services, put_names, put_echs}
-use Rattle.machine.specs.declared.calls.Beside.{Beside}
 use Rattle.answers.specs.Answers.{answer_bytes}
-use Rattle.replies.specs.declared.Change.{Change}
-use Rattle.replies.specs.declared.Touched.{Touched}
-use Rattle.replies.specs.declared.Touched.TheVariants as touched
 use Rattle.replay.specs.Frames.{Frame, frame_at}
 use Rattle.replay.specs.Replay.{Step, step_of, Run, ended, ahead, run, run_from}
 use Rattle.replay.proofs.Framed.{frame-lies}
-use Rattle.replies.specs.Replies.{after, ids_after}
-use Rattle.replay.specs.Race.{Proper}
-use Rattle.replay.proofs.Steps.{few-calls, parts, parts_by, touched_in, parts-after}
+use Rattle.replay.proofs.Steps.{few-calls}
 
 -- `rest`, behind what is written and counted, is `all`
 pub record Onto (out₀ out : List ℕ) (written calls : ℕ) (rest all : Run) : Type 0 where
@@ -177,23 +159,6 @@ module _ (tape out₀ : List ℕ) (first : ℕ) (m₀ : Machine) (at written cal
               onto = onto-ahead out₀ out written calls s _ _ (rw (run_step k h l w) at o);
             }
 
--- the parts as they are stored
-pub tied_by : (tape out₀ : List ℕ) (first : ℕ) (m₀ : Machine) (at written calls : ℕ) (out : List ℕ) (m : Machine) (c : Change) (b : Beside) {x t : Touched} → Proper c → x ≡ touched_in m c → x ≡ t
-    → Tied tape out₀ first m₀ at written calls out (after m c b) → Tied tape out₀ first m₀ at written calls out (parts_by t m c b)
-tied_by tape out₀ first m₀ at written calls out m c b {x} {t} s e f i =
-    let z : after m c b ≡ parts_by t m c b = parts-after m c b s ∙ ap (λ u. parts_by u m c b) (sym e ∙ f) in
-    rw z at i
-
--- and with what came beside: an answer's addresses, services with their names and ECH bytes, a retry
-module _ (tape out₀ : List ℕ) (first : ℕ) (m₀ : Machine) (at written calls : ℕ) (out : List ℕ) (m : Machine) (c : Change) (b : Beside) {i : IdGenerator} (ids : i ≡ ids_after m.ids c) where
-  pub tied-answered : (p n : ℕ) (q : Query) {l : Addresses} → l ≡ b.addresses → Tied tape out₀ first m₀ at written calls out (parts_by (touched.Answered p q n) m c b)
-      → Tied tape out₀ first m₀ at written calls out (parts m.rules m.timing m.alts i (record { count = n; list = set m.queries.list p q }) (record { list = set m.answers.list p l }) m.services m.attempts m.retries m.names m.echs)
-  tied-answered p n q e t = rw (ids, e) t
-
-  pub tied-offered : (p n : ℕ) (q : Query) (r : Round) {s : Services} {x : Names} {h : Echs} → s ≡ placed_services b.services r → x ≡ put_names m.names r b.names → h ≡ put_echs m.echs r b.echs → Tied tape out₀ first m₀ at written calls out (parts_by (touched.Offered p q n r) m c b)
-      → Tied tape out₀ first m₀ at written calls out (parts m.rules m.timing m.alts i (record { count = n; list = set m.queries.list p q }) m.answers s m.attempts m.retries x h)
-  tied-offered p n q r es ex eh t = rw (ids, es, ex, eh) t
-
-  pub tied-retried : (p n r : ℕ) (a : Attempt) {y : Retries} {x : Ech} → y ≡ put_retry m.retries r p → x ≡ b.retry → Tied tape out₀ first m₀ at written calls out (parts_by (touched.Retried p a n r) m c b)
-      → Tied tape out₀ first m₀ at written calls out (parts m.rules m.timing m.alts i m.queries m.answers m.services (record { count = n; list = set m.attempts.list p a }) y m.names (with_ech m.echs (8 + p) x))
-  tied-retried p n r a ey ex t = rw (ids, ey, ex) t
+    pub tied-next : Tied tape out₀ first m₀ at written calls out m → at < length tape → {end n : ℕ} {out' : List ℕ} {m' : Machine} → n ≡ s.calls → m' ≡ s.machine → put.placed end ≡ put_answer out written (answer_bytes s.said)
+        → out' ≡ put_bytes out written (answer_bytes s.said) → Tied tape out₀ first m₀ next end (calls + n) out' m'
+    tied-next i l e f p q = rw (e, f) (tied-go i l p q)

@@ -1,7 +1,9 @@
--- Tape check (document 01, part 8): the first fault of a tape, frame by frame and body by body; 0 where it has none.
-use Rattle.std.specs.Prelude.{ℕ, zero, suc, cond, List, nat_eq, nat_le, length}
+-- Tape check (rule 8.7): the first fault of a tape, frame by frame and body by body; 0 where it has none.
+use Rattle.std.specs.Prelude.{ℕ, zero, suc, cond, List, nat_eq, nat_le, length, Result, Ok, Err}
 use Rattle.numbers.specs.Fields.{span_bytes}
 use Rattle.numbers.specs.Got.{Got, got, refused}
+use Rattle.numbers.specs.Refusals.{refusal_number}
+use Rattle.numbers.specs.declared.refusal.Refusal.{Refusal}
 use Rattle.bodies.specs.Events.{event_at, fault_of}
 use Rattle.configuration.specs.Configuration.{setup_at}
 use Rattle.replay.specs.Frames.{body_at, frame_at}
@@ -25,3 +27,8 @@ check_events (suc left) tape at =
 -- the whole tape, its configuration first
 unfoldable pub check_of : List ℕ → ℕ
 check_of tape = on_read (body_at tape 0) (λ b next. or_else (fault_of (setup_at (span_bytes tape b))).number (check_events (length tape) tape next))
+
+-- what the code says of a fault: its refusal, or none
+abbrev pub fault_number : Result (Unit {0}) Refusal → ℕ
+fault_number (Ok u) = 0
+fault_number (Err e) = refusal_number e

@@ -1,4 +1,4 @@
--- Replay (document 01, "Refusal numbers" and part 8): the machine's two calls, event after event, and what is written for them.
+-- Replay (rules 8.2 to 8.6): the machine's two calls, event after event, and what is written for them.
 use Rattle.std.specs.Prelude.{ℕ, zero, suc, ◌+◌, ◌≡◌, cond, List, [], ◌++◌, nat_le, length}
 use Rattle.numbers.specs.Fields.{span_bytes}
 use Rattle.numbers.specs.Got.{Got, got, refused}

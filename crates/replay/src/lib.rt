@@ -1,5 +1,5 @@
 #![tactic(auto)]
-// Tapes: frames, replay, tape check (document 01, "Refusal numbers" and part 8).
+// Tapes: frames, replay, tape check (rules 8.1 to 8.7).
 pub mod check;
 pub mod frames;
 mod race;

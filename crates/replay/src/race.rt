@@ -17,18 +17,18 @@ ghost use Rattle.replay.specs.Race.{Kept, Proper, query_in, attempt_in, offered_
 ghost use Rattle.replay.specs.Replay.{step_of};
 ghost use Rattle.replay.specs.Saying.{said_in, end_shown};
 
-use std::marker::Model;
-
 use after::{is_bare, placed_services, put_retry};
 use answers::writer::{output_ech, output_name, put_output, put_taken};
-use bodies::{Event, EventRead, addresses_of, input_of, located_of, read_event, retry_of};
+use bodies::{Event, addresses_of, input_of, located_of, read_event, retry_of};
 use input::{Input, Verdict, verdict_of};
 use machine::calls::survey_of;
 use machine::grant::{Turn, grant_of, wish_attempt, wish_query};
-use machine::wish::{Found, Look, endpoint_next, first_found, looks, looks_on, retry_next, wish_of};
+use machine::wish::{
+    Found, Look, endpoint_next, first_found, looks, looks_on, retry_next, wish_of,
+};
 use numbers::field::Span;
-use numbers::put::Wrote;
 use numbers::refusal::Refusal;
+use parts::reading::Reading;
 use parts::room::{ech_of, name_of};
 use records::names::{Echs, Names};
 use records::queries::{Queries, Query};
@@ -42,6 +42,7 @@ use starting::surveys::Asks;
 use state::attempts::{Attempt, Attempts};
 use state::changes::{Round, first_ech, first_name};
 use state::{Machine, made};
+use std::marker::Model;
 use upcoming::alike::Alike;
 use upcoming::classes::alike_of;
 
@@ -177,19 +178,19 @@ impl Race {
     }
 
     // What an event is answered, and what it changes; a refused body is no call and changes nothing.
-    fn reply(&self, now: u64, read: EventRead) -> Reply
+    fn reply(&self, now: u64, read: Reading<Event>) -> Reply
         ensures reply { result ≡ reply_by (turn_of self.now now) (judged self.now now) read }
         ensures proper { Proper result.change }
     {
         let _ = &self.machine;
         match read {
-            EventRead::Refused(e, _) => fault_reply(e),
-            EventRead::Event(e, _) => self.reply_on(now, e),
+            Err(f) => fault_reply(f.refusal),
+            Ok((e, _)) => self.reply_on(now, e),
         }
     }
 
     // An answer's words, with what lies at its places.
-    fn put_answer(&self, out: &mut [u8], at: usize, a: Answer) -> Wrote
+    fn put_answer(&self, out: &mut [u8], at: usize, a: Answer) -> Result<usize, Refusal>
         ensures answer { wrote_shown result ≡ put_answer out.old at (answer_bytes (said_in self.now a)) }
         ensures bytes { out.new ≡ put_bytes out.old at (answer_bytes (said_in self.now a)) }
     {
@@ -259,7 +260,13 @@ impl Race {
 
     // An event: its answer stands from the place at on, and what it changes is stored, or neither where the answer doesn't fit. The place
     // after the answer, and 1 for a call.
-    pub fn event(&mut self, now: u64, body: &[u8], out: &mut [u8], at: usize) -> Result<(usize, usize), Refusal>
+    pub fn event(
+        &mut self,
+        now: u64,
+        body: &[u8],
+        out: &mut [u8],
+        at: usize,
+    ) -> Result<(usize, usize), Refusal>
         ensures answer { end_shown result ≡ put_answer out.old at (answer_bytes (step_of self.old now body.now).said) }
         ensures bytes { out.new ≡ put_bytes out.old at (answer_bytes (step_of self.old now body.now).said) }
         ensures after { IfOk result (λ p. (p.1 ≡ (step_of self.old now body.now).calls) × (self.new ≡ (step_of self.old now body.now).machine)) }
@@ -267,12 +274,8 @@ impl Race {
     {
         let read = read_event(body);
         let reply = self.reply(now, read);
-        match self.put_answer(out, at, reply.answer) {
-            Wrote::Refused(e) => Err(e),
-            Wrote::Next(end) => {
-                self.store(reply.change, body, event_in(read));
-                Ok((end, reply.calls))
-            }
-        }
+        let end = self.put_answer(out, at, reply.answer)?;
+        self.store(reply.change, body, event_in(read));
+        Ok((end, reply.calls))
     }
 }

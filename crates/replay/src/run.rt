@@ -4,7 +4,7 @@ ghost use Rattle.std.proofs.lemmas.List.Edits.{sets};
 ghost use Rattle.state.specs.State.{made};
 ghost use Rattle.replay.specs.Replay.{run_from, Gives};
 
-use super::frames::{FrameRead, frame_at};
+use super::frames::frame_at;
 use super::race::Race;
 use numbers::refusal::refusal_number;
 use records::names::Names;
@@ -42,13 +42,13 @@ pub fn run(
     };
     while done.place < tape.len() {
         match frame_at(tape, done.place) {
-            FrameRead::Refused(e) => {
+            Err(e) => {
                 done.status = refusal_number(e);
                 return done;
             }
-            FrameRead::Frame(now, b, next) => {
-                let body = &tape[b.start..next];
-                match race.event(now, body, out, done.written) {
+            Ok((f, next)) => {
+                let body = &tape[f.body.start..next];
+                match race.event(f.moment, body, out, done.written) {
                     Err(e) => {
                         done.status = refusal_number(e);
                         return done;

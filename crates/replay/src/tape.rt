@@ -5,8 +5,7 @@ ghost use Rattle.replay.specs.Replay.{ended, replay_from, replay_of, Gives};
 
 use super::frames::configuration_at;
 use super::run::{Replayed, run};
-use configuration::{SetupRead, fill_configuration, read_configuration};
-use numbers::field::SpanRead;
+use configuration::{fill_configuration, read_configuration};
 use numbers::refusal::refusal_number;
 
 fn stopped(status: u8) -> Replayed
@@ -27,16 +26,11 @@ fn configured(tape: &[u8], out: &mut [u8], start: usize, end: usize) -> Replayed
     ensures bytes { out.new ≡ sets out.old 0 (replay_from tape.now (take (end - start) (drop start tape.now)) end (length out.old)).bytes }
 {
     let body = &tape[start..end];
-    let r = read_configuration(body);
-    match r {
-        SetupRead::Refused(e, _) => stopped(refusal_number(e)),
-        SetupRead::Setup(s, _) => {
+    match read_configuration(body) {
+        Err(f) => stopped(refusal_number(f.refusal)),
+        Ok((s, _)) => {
             let c = fill_configuration(body, s);
-            let rules = s.rules;
-            let timing = s.timing;
-            let alts = c.alts;
-            let names = c.names;
-            run(tape, out, end, rules, timing, alts, names)
+            run(tape, out, end, s.rules, s.timing, c.alts, c.names)
         }
     }
 }
@@ -48,12 +42,8 @@ pub fn replay(tape: &[u8], out: &mut [u8]) -> Replayed
     ensures numbers { Gives result (replay_of tape.now (length out.old)) }
     ensures bytes { out.new ≡ sets out.old 0 (replay_of tape.now (length out.old)).bytes }
 {
-    let f = configuration_at(tape);
-    match f {
-        SpanRead::Refused(e) => stopped(refusal_number(e)),
-        SpanRead::Bytes(b, next) => {
-            let start = b.start;
-            configured(tape, out, start, next)
-        }
+    match configuration_at(tape) {
+        Err(e) => stopped(refusal_number(e)),
+        Ok((b, next)) => configured(tape, out, b.start, next),
     }
 }

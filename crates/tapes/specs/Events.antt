@@ -1,4 +1,4 @@
--- A tape as its records stand (document 01, part 8): its configuration, then event after event, up to its end or the first frame that can't
+-- A tape as its records stand (rule 8.1): its configuration, then event after event, up to its end or the first frame that can't
 -- be read. Nothing here runs a machine.
 use Rattle.std.specs.Prelude.{ℕ, zero, suc, ◌+◌, ◌<◌, ◌≡◌, ◌⊎◌, cond, List, [], ◌∷◌, ◌++◌, map, nat_eq, nat_lt, nat_le, length}
 use Rattle.numbers.specs.Fields.{span_bytes}

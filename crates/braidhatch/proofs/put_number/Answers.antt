@@ -1,12 +1,13 @@
+use Prim.Native.Nat.{◌+◌, ◌-◌, ◌≤◌}
+use mathlib.Core.Path.{◌≡◌, ap, ◌∙◌}
+use lib.ListN.{length}
 use native.Mathlib.Omega.{arith}
-use lib.ListN.{length-set}
-use Rattle.braidhatch.proofs.Reports.{next-byte, last_byte}
+use Rattle.numbers.proofs.PutLaws.{part_stored}
+use Rattle.braidhatch.specs.Report.{low_first}
+use Rattle.braidhatch.proofs.Reports.{number_bytes, eight}
 use Rattle.braidhatch.proofs.put_number.Goals as goal
-
-pub loop-k-preserved : goal.loop-k-preserved
-loop-k-preserved c =
-    (next-byte c.loop-k.report c.args.at c.loop-k.k c.loop-k.rest _ c.loop-k.invariant.0 c.loop-k-test.true, omega arith, simp length-set c.loop-k.invariant.2)
 
 pub returns : goal.returns
 returns c =
-    last_byte c.loop-k.report c.args.at c.loop-k.k c.loop-k.rest _ c.loop-k.invariant.0 c.loop-k-test.false
+    let stored : c.copy_from_slice.new.self ≡ low_first 8 c.args.n = c.copy_from_slice.ensures.after ∙ (c.to_le_bytes.ensures ∙ number_bytes c.args.n) in
+    part_stored c.args.report.now c.args.at (c.args.at + 8 - c.args.at) (low_first 8 c.args.n) c.copy_from_slice.new.self stored (omega (arith, eight c.args.n)) (omega (arith, eight c.args.n, c.requires))

@@ -1,5 +1,4 @@
 use mathlib.Core.Path.{◌∙◌}
-use Prim.Native.Nat.{◌<◌}
 use native.Mathlib.Omega.{arith}
 use Rattle.replay.proofs.Steps.{turn-seen, turn-same}
 use Rattle.replay.proofs.Wished.{seen-inside, granted-at}
