@@ -1,6 +1,6 @@
 // The head of the page of a tape whose configuration is sound.
 use super::notice::Notice;
-use super::title::{Title, draw_words};
+use super::title::{Title, draw_begin, draw_title, draw_words};
 use super::verdict::{Detail, Verdict};
 use chart::page::{DETAIL, NOTE};
 use entries::setup::{Configuration, Origin};
@@ -24,7 +24,8 @@ pub fn draw_head(
         origin: origin.as_bytes(),
         rest: rest.as_bytes(),
     };
-    title.draw(rt, height)
+    draw_begin(rt, title, height)?;
+    draw_title(rt, title)
 }
 
 // What stands below the title: the winner or the last answer, and what a reader is to be warned of.

@@ -1,6 +1,6 @@
 // The page of a tape that has no sound configuration.
 use super::notice::Stop;
-use super::title::{Title, draw_words};
+use super::title::{Title, draw_begin, draw_title, draw_words};
 use chart::page::{DETAIL, END};
 use numbers::refusal::refusal_number;
 use parts::reading::Fault;
@@ -11,11 +11,14 @@ use wording::words::Refused;
 
 fn draw_only<D: Display + Drop>(rt: &(impl Print + Alloc), why: D) -> io::Result<()> {
     let said = format!(in rt.alloc(); "{why}")?;
+    let origin = b"No race";
+    let name = Title { origin, rest: b"" };
     let title = Title {
-        origin: b"No race",
+        origin,
         rest: b": the tape has no sound configuration",
     };
-    title.draw(rt, 72)?;
+    draw_begin(rt, name, 72)?;
+    draw_title(rt, title)?;
     draw_words(rt, "alarm", DETAIL, said.as_bytes())?;
     rt.print(END)
 }

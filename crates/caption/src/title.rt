@@ -17,27 +17,28 @@ pub struct Title<'a> {
     pub rest: &'a [u8],
 }
 
-impl Title<'_> {
-    // The page of a height up to the words on it, whose name is the whole title, and then the title.
-    pub fn draw(&self, rt: &impl Print, height: u64) -> io::Result<()> {
-        let begin = Begin(height);
-        print!(rt; "{begin}{}{}", Escaped(self.origin), Escaped(self.rest))?;
-        print!(rt; "{STYLES}{SHAPES}")?;
-        let tag = TextTag {
-            class: "title",
-            x: 16,
-            y: TITLE,
-        };
-        let origin = Shortened {
-            text: self.origin,
-            most: ORIGIN,
-        };
-        let rest = Shortened {
-            text: self.rest,
-            most: REST,
-        };
-        print!(rt; "{tag}{origin}{rest}</text>\n")
-    }
+// The page of a height up to the words on it. Its name is the whole title.
+pub fn draw_begin(rt: &impl Print, t: Title<'_>, height: u64) -> io::Result<()> {
+    let begin = Begin(height);
+    print!(rt; "{begin}{}{}", Escaped(t.origin), Escaped(t.rest))?;
+    print!(rt; "{STYLES}{SHAPES}")
+}
+
+pub fn draw_title(rt: &impl Print, t: Title<'_>) -> io::Result<()> {
+    let tag = TextTag {
+        class: "title",
+        x: 16,
+        y: TITLE,
+    };
+    let origin = Shortened {
+        text: t.origin,
+        most: ORIGIN,
+    };
+    let rest = Shortened {
+        text: t.rest,
+        most: REST,
+    };
+    print!(rt; "{tag}{origin}{rest}</text>\n")
 }
 
 // A line of words.
