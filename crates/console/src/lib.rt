@@ -1,8 +1,7 @@
 // What the programs write alike: bytes in hexadecimal, and complaints. No contract can say what is written (docs/LOOSE.md, 1).
 #![tactic(auto)]
 
-use std::fmt;
-use std::io;
+use std::{fmt, io};
 
 // Each byte in two hexadecimal digits, with a space before it.
 #[derive(Clone, Copy)]
