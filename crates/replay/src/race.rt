@@ -2,12 +2,9 @@
 ghost use Rattle.std.specs.Prelude.{◌≡◌, ◌<◌, IfOk, OnErr};
 ghost use Rattle.numbers.specs.Put.{put_answer, put_bytes};
 ghost use Rattle.numbers.specs.Shown.{wrote_shown};
-ghost use Rattle.records.specs.Classes.{same_class};
-ghost use Rattle.upcoming.specs.Alike.{alike_endpoints};
 ghost use Rattle.state.specs.declared.Machine.{Machine};
 ghost use Rattle.state.specs.State.{made};
 ghost use Rattle.after.specs.After.{put_names, put_echs};
-ghost use Rattle.machine.specs.Output.{found_by};
 ghost use Rattle.machine.specs.Steps.{turn_of, judged};
 ghost use Rattle.offers.specs.Offers.{names_in, echs_in};
 ghost use Rattle.bodies.specs.Told.{beside_of};
@@ -20,12 +17,10 @@ ghost use Rattle.replay.specs.Saying.{said_in, end_shown};
 use after::{is_bare, placed_services, put_retry};
 use answers::writer::{output_ech, output_name, put_output, put_taken};
 use bodies::{Event, addresses_of, input_of, located_of, read_event, retry_of};
-use input::{Input, Verdict, verdict_of};
+use input::{Input, Verdict, verdict_in};
 use machine::calls::survey_of;
 use machine::grant::{Turn, grant_of, wish_attempt, wish_query};
-use machine::wish::{
-    Found, Look, endpoint_next, first_found, looks, looks_on, retry_next, wish_of,
-};
+use machine::wish::{found_on, wish_of};
 use numbers::field::Span;
 use numbers::refusal::Refusal;
 use parts::reading::Reading;
@@ -38,7 +33,6 @@ use replies::{
     Answer, Change, Reply, Touched, call_reply, event_in, fault_reply, ids_after, input_reply,
     touched_of,
 };
-use starting::surveys::Asks;
 use state::attempts::{Attempt, Attempts};
 use state::changes::{Round, first_ech, first_name};
 use state::{Machine, made};
@@ -59,24 +53,6 @@ impl Model for Race {
     ghost view = { λ r. r.machine };
 
     ghost invariant = { λ r. Kept r.machine r.alike };
-}
-
-// What is found among the records, in that order.
-fn found_in(m: &Machine, alike: Alike, look: Look, asks: Asks) -> Found
-    ensures { result ≡ found_by (same_class alike.names) (alike_endpoints alike.hosts alike.echs) look asks.asked m.now.rules m.now.alts m.now.queries m.now.answers m.now.services m.now.attempts m.now.retries }
-{
-    if !looks(look) {
-        return Found::Nothing;
-    }
-    let same = alike.names;
-    let retry = retry_next(look.retry, m.attempts, m.retries, alike);
-    let on = looks_on(look.next, retry);
-    let endpoint = endpoint_next(
-        on, m.rules, m.alts, m.queries, m.answers, m.services, m.attempts, alike,
-    );
-    first_found(
-        retry, endpoint, look.query, m.rules, m.alts, m.queries, m.services, asks, same,
-    )
 }
 
 // A record, or an attempt, at its place in a table that then has n.
@@ -144,7 +120,7 @@ impl Race {
         );
         let tries = seen.tries;
         let asks = seen.asks;
-        let found = found_in(m, self.alike, seen.look, asks);
+        let found = found_on(m, &self.alike, seen.look, asks);
         let w = wish_of(m.rules, m.timing, tries, asks, found, m.attempts.count, now);
         let qp = wish_query(w);
         let tp = wish_attempt(w);
@@ -158,10 +134,10 @@ impl Race {
         ensures { result ≡ judged self.now now input }
     {
         let m = &self.machine;
-        verdict_of(
+        verdict_in(
             m.rules.ech,
-            m.queries,
-            m.attempts,
+            &m.queries,
+            &m.attempts,
             m.retries.count,
             input,
             now,

@@ -20,5 +20,5 @@ offset_bounds-m-tp c = omega (arith, c.wish_attempt-tp.ensures, (seen-inside _ _
 pub returns : goal.returns
 returns c =
     rw (← c.self.view_is)
-    (turn-seen _ _ c.self.inside.machine c.args.now c.survey_of-seen.ensures c.found_in-found.ensures c.wish_of-w.ensures (granted-at _ _ _ _ _ c.wish_query-qp.ensures c.wish_attempt-tp.ensures c.grant_of.ensures)
+    (turn-seen _ _ c.self.inside.machine c.args.now c.survey_of-seen.ensures c.found_on-found.ensures c.wish_of-w.ensures (granted-at _ _ _ _ _ c.wish_query-qp.ensures c.wish_attempt-tp.ensures c.grant_of.ensures)
     ∙ turn-same c.self.inside.machine c.args.now _ c.self.invariant.same)
