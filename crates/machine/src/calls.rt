@@ -9,16 +9,13 @@ ghost use Rattle.machine.specs.Steps.{survey_of, output_step, change_of, taken_o
 
 use super::grant::{Output, Turn, grant_of, wish_attempt, wish_query};
 use super::wish::{Found, Look, Wish, found_on, look_of, looks, wish_of};
-use after::{
-    TargetEchs, TargetNames, answers_fed, attempts_called, attempts_fed, echs_fed, ids_called,
-    names_fed, queries_called, queries_fed, retries_fed, services_fed,
-};
+use after::{TargetEchs, TargetNames};
 use input::{Input, Verdict, verdict_in};
 use numbers::refusal::Refusal;
 use pacing::id::IdGenerator;
 use records::names::Ech;
 use records::queries::{Addresses, Queries, Query, no_query};
-use records::rules::{Alts, Rules, Timing};
+use records::rules::{Rules, Timing};
 use records::services::Services;
 use starting::surveys::{Asks, Tries, asks_of, hints_of, tries_of};
 use state::Machine;
@@ -159,9 +156,7 @@ pub fn call(m: &mut Machine, now: u64) -> Output
         now,
     );
     let turn = turn_of(m.queries, m.attempts, m.ids, w, now);
-    m.ids = ids_called(m.ids, turn.change);
-    m.queries = queries_called(m.queries, turn.change);
-    m.attempts = attempts_called(m.attempts, turn.change);
+    after::call(m, turn.change);
     turn.output
 }
 
@@ -208,13 +203,15 @@ pub fn feed(m: &mut Machine, now: u64, input: Input, beside: &Beside) -> Taken
         now,
     );
     let change = change_of(verdict);
-    m.queries = queries_fed(m.queries, change);
-    m.answers = answers_fed(m.answers, change, beside.addresses);
-    m.services = services_fed(m.services, change, beside.services);
-    m.attempts = attempts_fed(m.attempts, change);
-    m.retries = retries_fed(m.retries, change);
-    m.names = names_fed(m.names, change, beside.names);
-    m.echs = echs_fed(m.echs, change, beside.echs, beside.retry);
+    after::feed(
+        m,
+        change,
+        &beside.addresses,
+        &beside.services,
+        &beside.names,
+        &beside.echs,
+        &beside.retry,
+    );
     taken_of(verdict)
 }
 
