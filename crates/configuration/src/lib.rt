@@ -4,8 +4,7 @@
 ghost use Rattle.std.specs.Prelude.{◌≡◌};
 ghost use Rattle.numbers.specs.Shown as numbers;
 ghost use Rattle.parts.specs.Reading.{read, next, field};
-ghost use Rattle.parts.specs.Items.{items, past, counted};
-ghost use Rattle.parts.specs.Shown.{shown, passed_shown};
+ghost use Rattle.parts.specs.Shown.{shown};
 ghost use Rattle.bodies.specs.Events.{fault_of, fault_shown};
 ghost use Rattle.configuration.specs.Configuration.{literal_by, origin_at, alt_host_at, version_of, alt, preference_of, choices, front, multiplier_at, pace, mode_of, flagged, back, host_in, set_up, rest_at, fields_at, setup_at};
 ghost use Rattle.configuration.specs.Filling.{alt_host, alt_of, host_name, no_alternatives, alts_in, names_with, configured_in};
@@ -18,6 +17,7 @@ use parts::address::{Items, read_four, read_six};
 use parts::field::{read_port, read_versions};
 use parts::reading::{Fault, Reading, field};
 use parts::room::name_of;
+use parts::row::{Kind, read_row};
 use records::names::{Name, Names, no_name, no_names};
 use records::rules::{
     Alt, AltHost, Alts, Host, Mode, Port, Preference, Rules, Timing, Version, Versions, no_alts,
@@ -172,27 +172,15 @@ fn read_alt(s: &[u8], at: usize) -> Reading<AltSpan>
     ))
 }
 
-// The place after n alternative services.
-fn pass_alts(s: &[u8], at: usize, n: usize) -> Result<usize, Fault>
-    ensures { passed_shown result ≡ past (items (alt s.now) n at) }
-{
-    let mut p = at;
-    for _i in 0..n {
-        let (_, next) = read_alt(s, p)?;
-        p = next;
-    }
-    Ok(p)
-}
+// The kind of a row of alternative services.
+struct AltKind;
 
-// A count and so many alternative services.
-#[tactic(auto, unfolding(parts::specs::Items::counted))]
-fn read_alts(s: &[u8], at: usize) -> Reading<Items>
-    ensures { shown result ≡ counted 4 (alt s.now) s.now at }
-{
-    let (n, first) = field(at, read_at_most(s, at, 4, Refusal::TooMany))?;
-    let count = n as usize;
-    let end = pass_alts(s, first, count)?;
-    Ok((Items { count, first }, end))
+impl Kind<AltSpan> for AltKind {
+    ghost told = { λ _. alt };
+
+    fn read(&self, s: &[u8], at: usize) -> Reading<AltSpan> {
+        read_alt(s, at)
+    }
 }
 
 #[tactic(auto, unfolding(crate::specs::Configuration::preference_of))]
@@ -357,7 +345,7 @@ fn read_fields(s: &[u8]) -> Reading<Setup>
     ensures { shown result ≡ fields_at s.now }
 {
     let (f, q) = read_front(s)?;
-    let (alts, last) = read_alts(s, q)?;
+    let (alts, last) = read_row(&AltKind, s, q, 4)?;
     read_rest(s, last, f, alts)
 }
 

@@ -1,8 +1,8 @@
 #![tactic(auto)]
 // Services in an HTTPS answer.
 ghost use Rattle.std.specs.Prelude.{◌≡◌};
-ghost use Rattle.parts.specs.Items.{items, past, counted};
-ghost use Rattle.parts.specs.Shown.{shown, passed_shown};
+ghost use Rattle.parts.specs.Items.{counted};
+ghost use Rattle.parts.specs.Shown.{shown};
 ghost use Rattle.offers.specs.Offers.{head, ech, way, hints, offer, sealed_at, service_of, span_of, no_located, located_in, names_in, echs_in, in_rooms};
 
 use after::{TargetEchs, TargetNames};
@@ -10,8 +10,9 @@ use numbers::field::{Span, read_at_most, read_bytes, read_name};
 use numbers::refusal::Refusal;
 use parts::address::{Form, Items, fill_fours, fill_sixes, read_addresses};
 use parts::field::{read_port, read_versions};
-use parts::reading::{Fault, Reading, field};
+use parts::reading::{Reading, field};
 use parts::room::{ech_of, name_of};
+use parts::row::{Kind, read_row};
 use records::names::EchPlace;
 use records::rules::{Port, Versions};
 use records::services::{Service, Services, no_services};
@@ -123,27 +124,22 @@ fn read_offer(s: &[u8], at: usize) -> Reading<Offer>
     Ok((Offer { head, way, hints }, end))
 }
 
-// The place after n services.
-fn pass_offers(s: &[u8], at: usize, n: usize) -> Result<usize, Fault>
-    ensures { passed_shown result ≡ past (items (offer s.now) n at) }
-{
-    let mut p = at;
-    for _i in 0..n {
-        let (_, next) = read_offer(s, p)?;
-        p = next;
+// The kind of a row of services.
+struct OfferKind;
+
+impl Kind<Offer> for OfferKind {
+    ghost told = { λ _. offer };
+
+    fn read(&self, s: &[u8], at: usize) -> Reading<Offer> {
+        read_offer(s, at)
     }
-    Ok(p)
 }
 
 // A count and so many services.
-#[tactic(auto, unfolding(parts::specs::Items::counted))]
 pub fn read_offers(s: &[u8], at: usize) -> Reading<Items>
     ensures { shown result ≡ counted 4 (offer s.now) s.now at }
 {
-    let (n, first) = field(at, read_at_most(s, at, 4, Refusal::TooMany))?;
-    let count = n as usize;
-    let end = pass_offers(s, first, count)?;
-    Ok((Items { count, first }, end))
+    read_row(&OfferKind, s, at, 4)
 }
 
 fn sealed_at(e: Option<Span>) -> EchPlace

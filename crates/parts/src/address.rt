@@ -1,13 +1,14 @@
 // Addresses in bytes, alone and in a row.
 ghost use Rattle.std.specs.Prelude.{ℕ, ◌+◌, ◌≤◌, ◌<◌, ◌≡◌, length, get_or};
 ghost use Rattle.parts.specs.Addresses.{word, long, four, six, scoped, address, addresses_in, no_fours, no_sixes, fours_in, sixes_in};
-ghost use Rattle.parts.specs.Items.{items, past, counted};
-ghost use Rattle.parts.specs.Shown.{shown, passed_shown};
+ghost use Rattle.parts.specs.Items.{items, counted};
+ghost use Rattle.parts.specs.Shown.{shown};
 ghost use Rattle.parts.specs.Reading.{read};
 ghost use Rattle.parts.specs.Filling.{stored, filled};
 ghost use Rattle.records.specs.declared.queries.Addr.{Addr};
 
 use super::reading::{Fault, Reading, field};
+use super::row::{Kind, read_row};
 use numbers::field::{read_at_most, read_bytes};
 use numbers::refusal::Refusal;
 use records::queries::{Addr, Addresses, no_addresses};
@@ -116,37 +117,23 @@ fn read_scoped(s: &[u8], at: usize) -> Reading<Addr>
     ))
 }
 
-fn read_address(form: Form, s: &[u8], at: usize) -> Reading<Addr>
-    ensures { shown result ≡ address form s.now at }
-{
-    match form {
-        Form::Four => read_four(s, at),
-        Form::Six => read_six(s, at),
-        Form::Scoped => read_scoped(s, at),
-    }
-}
+impl Kind<Addr> for Form {
+    ghost told = { address };
 
-// The place after n addresses.
-fn pass_addresses(form: Form, s: &[u8], at: usize, n: usize) -> Result<usize, Fault>
-    ensures { passed_shown result ≡ past (items (address form s.now) n at) }
-{
-    let mut p = at;
-    for _i in 0..n {
-        let (_, next) = read_address(form, s, p)?;
-        p = next;
+    fn read(&self, s: &[u8], at: usize) -> Reading<Addr> {
+        match self {
+            Form::Four => read_four(s, at),
+            Form::Six => read_six(s, at),
+            Form::Scoped => read_scoped(s, at),
+        }
     }
-    Ok(p)
 }
 
 // A count and so many addresses.
-#[tactic(auto, unfolding(crate::specs::Items::counted))]
 pub fn read_addresses(form: Form, s: &[u8], at: usize, most: u64) -> Reading<Items>
     ensures { shown result ≡ counted most (address form s.now) s.now at }
 {
-    let (n, first) = field(at, read_at_most(s, at, most, Refusal::TooMany))?;
-    let count = n as usize;
-    let end = pass_addresses(form, s, first, count)?;
-    Ok((Items { count, first }, end))
+    read_row(&form, s, at, most)
 }
 
 // Reads the items of a row once more, and stores what is kept of each.
@@ -164,7 +151,7 @@ fn fill<T: Copy, K: Fn(Addr) -> T>(
 {
     let mut p = l.first;
     for i in 0..l.count {
-        let (a, next) = read_address(form, s, p)?;
+        let (a, next) = form.read(s, p)?;
         out[i] = keep(a);
         p = next;
     }

@@ -5,3 +5,4 @@ pub mod address;
 pub mod field;
 pub mod reading;
 pub mod room;
+pub mod row;
