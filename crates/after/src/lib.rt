@@ -32,8 +32,8 @@ fn counted(n: usize, p: usize) -> usize
     n.max(p + 1)
 }
 
-// Something stored in its table. A place outside it, which no change has, stores nothing. Twice, here and for names and ECH bytes below: the
-// tables are types of their own, and what is common to them is a line.
+// Something stored in its table. A place outside it, which no change has, stores nothing. This stands twice, and so do names and ECH bytes
+// below: the tables are types of their own, and what is common to them is a line.
 #[tactic(auto, unfolding(crate::specs::After::put_query))]
 fn put_query(queries: &mut Queries, p: usize, q: Query)
     ensures { queries.new ≡ put_query queries.old p q }
@@ -119,8 +119,8 @@ pub fn call(m: &mut Machine, change: CallChange)
     }
 }
 
-// What an input changes, with what came beside it: the addresses of an answer; the services, names and ECH bytes of an HTTPS answer, where an
-// ECH place among the services only says that there are bytes; the bytes of an ECH retry.
+// What an input changes, with what came beside it: the addresses of an answer; the services, names and ECH bytes of an HTTPS answer, where
+// an ECH place among the services only says that there are bytes; the bytes of an ECH retry.
 pub fn feed(
     m: &mut Machine,
     change: InputChange,

@@ -9,7 +9,7 @@ use super::reading::{Fault, Reading, field};
 use numbers::field::read_at_most;
 use numbers::refusal::Refusal;
 
-// How an item is read where it stands.
+// How an item is read where it stands. No closure: what it asks of its caller would be a `requires` of a public function.
 pub trait Kind<T> {
     ghost told: { Self → List ℕ → ℕ → reading.Reading T };
 

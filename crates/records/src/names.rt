@@ -6,8 +6,8 @@ ghost use Rattle.records.specs.Classes.{same_names, same_class, class_at};
 
 use super::places::{Places, class_of};
 
-// 1 to 253 bytes, with one trailing dot or none; empty where there is none. `Name` and `Ech` are two types, so that none stands for the other;
-// one over a size would save four lines, and each definition of names would say the size.
+// 1 to 253 bytes, with one trailing dot or none; empty where there is none. `Name` and `Ech` are two types, so that neither stands for the
+// other; one over a size would save four lines, and each definition of names would say the size.
 #[derive(Clone, Copy)]
 pub struct Name {
     pub len: usize,
