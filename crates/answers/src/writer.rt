@@ -1,6 +1,6 @@
 // Answers written into a lent buffer: all of one, or nothing where it does not fit. Buffer and place stay two parameters, as in
 // `numbers::put`: every promise speaks of both.
-ghost use Rattle.std.specs.Prelude.{◌≡◌, ◌∷◌, [], ◌++◌, ◌+◌, ◌≤◌, length};
+ghost use Rattle.std.specs.Prelude.{◌≡◌, ◌++◌, ◌+◌, ◌≤◌, length};
 ghost use Rattle.numbers.specs.Put.{placed, put_answer, put_bytes};
 ghost use Rattle.numbers.specs.Shown.{wrote_shown};
 ghost use Rattle.records.specs.Names.{name_bytes, ech_bytes, connect_name};
@@ -277,6 +277,7 @@ pub fn put_taken(out: &mut [u8], at: usize, t: Taken) -> Result<usize, Refusal>
     put_numbers(out, at, &[8, taken_number(t) as u64])
 }
 
+// Here and below 0 stands for no place, and no Option: definitions `output_name` and `output_ech` say so.
 fn target_name(t: Target) -> u8
     ensures { result ≡ target_name t }
 {

@@ -53,7 +53,8 @@ impl Asked {
     }
 }
 
-// In the order asked. No machine asks for more than 64: 16 queries, a refresh for each, and 32 attempts.
+// In the order asked. No machine asks for more than 64: 16 queries, a refresh for each, and 32 attempts. So no Vec: what is past the room
+// would be a fault (rule T.4).
 #[derive(Clone, Copy)]
 pub struct Table {
     pub count: usize,
@@ -163,7 +164,7 @@ pub struct Calls {
 }
 
 impl Calls {
-    // The time since the latest call; 0 where there is none, or where the clock went back.
+    // One call more. Where the clock went back, no time passed.
     fn call(&mut self, place: usize, now: Point) {
         if let Some(before) = self.last {
             let ns = now.moment.saturating_sub(before.at.moment);

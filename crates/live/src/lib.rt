@@ -10,7 +10,6 @@ ghost use Rattle.live.specs.Live.{taken, fed_with, fed_of, called_bytes, called_
 use answers::writer::{output_ech, output_name, put_output};
 use bodies::{Event, beside_of, input_of, read_event};
 use configuration::{Setup, fill_configuration};
-use machine::calls::Taken;
 use numbers::refusal::{Refusal, refusal_number};
 use state::{Machine, made};
 

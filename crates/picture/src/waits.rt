@@ -6,7 +6,7 @@ use reader::{Answer, answer_at};
 use replay::frames::frame_at;
 use std::io;
 
-// The last call's moment, its column, and the timer that it was given, 0 for none; before the first call all are 0.
+// The last call's moment, its column, and the timer that it was given, 0 for none (it is added); before the first call all are 0.
 #[derive(Clone, Copy, Default)]
 struct Wait {
     since: u64,

@@ -7,7 +7,7 @@ ghost use Rattle.probes.specs.Flat.{number_at};
 pub fn number(list: &[u64], base: usize, k: usize) -> u64
     ensures { result ≡ number_at list.now base k }
 {
-    let i = std::num::wrapping_add_usize(base, k);
+    let i = base.wrapping_add(k);
     if i < list.len() {
         return list[i];
     }

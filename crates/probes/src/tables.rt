@@ -63,7 +63,7 @@ fn ech(list: &[u64], base: usize, bytes: &[u8], i: usize) -> Ech
     }
 }
 
-// The ECH configurations whose lengths stand from base on.
+// The ECH configurations whose lengths stand from base on (40 of another type, so not by the same function).
 pub fn echs(list: &[u64], base: usize, bytes: &[u8]) -> Echs
     ensures { result ≡ echs_of list.now base bytes.now }
 {

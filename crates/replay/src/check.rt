@@ -40,6 +40,7 @@ fn check_events(tape: &[u8], first: usize) -> Result<(), Refusal>
     ensures { fault_number result ≡ check_events (length tape.now) tape.now first }
 {
     let mut at = first;
+    // (no `for`: a frame says where the next one begins)
     while at < tape.len() {
         let (f, next) = frame_at(tape, at)?;
         check_event(tape, f.body.start, next)?;

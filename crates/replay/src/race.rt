@@ -55,7 +55,7 @@ impl Model for Race {
     ghost invariant = { λ r. Kept r.machine r.alike };
 }
 
-// A record, or an attempt, at its place in a table that then has n.
+// A record, or an attempt, at its place in a table that then has n; names and ECH bytes below likewise: the tables are types of their own.
 fn put_query(queries: &mut Queries, p: usize, q: Query, n: usize)
     requires { p < 16 }
     ensures { queries.new ≡ query_in queries.old p q n }
@@ -158,6 +158,7 @@ impl Race {
         ensures reply { result ≡ reply_by (turn_of self.now now) (judged self.now now) read }
         ensures proper { Proper result.change }
     {
+        // (says the invariant of the machine, on which `proper` rests)
         let _ = &self.machine;
         match read {
             Err(f) => fault_reply(f.refusal),

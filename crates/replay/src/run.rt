@@ -40,6 +40,7 @@ pub fn run(
         written: 0,
         calls: 0,
     };
+    // (no `for`: a frame says where the next one begins)
     while done.place < tape.len() {
         match frame_at(tape, done.place) {
             Err(e) => {

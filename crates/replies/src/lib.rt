@@ -35,7 +35,7 @@ pub enum Change {
 #[derive(Clone, Copy)]
 pub struct Reply {
     pub answer: Answer,
-    // 1 for a call
+    // 1 for a call (definition `call_reply`; replay sums it)
     pub calls: usize,
     pub change: Change,
 }
