@@ -38,7 +38,10 @@ pub fn scale_of(moments: Option<Moments>) -> Scale {
 fn within(pixels: u64) -> u64
     ensures { result ≤ 680 }
 {
-    pixels.min(WIDE)
+    if WIDE < pixels {
+        return WIDE;
+    }
+    pixels
 }
 
 // The column of a time since the earliest moment; a long one is divided first, so that nothing wraps.

@@ -295,7 +295,8 @@ pub fn found_of(
     )
 }
 
-// The same on a machine that is lent. Where nothing is looked for nothing is found.
+// The same on a machine that is lent. Where nothing is looked for nothing is found. Not made of the one above, to which each part would be
+// copied once more.
 #[tactic(auto, using(crate::proofs::Looking::looking))]
 pub fn found_on(m: &Machine, alike: &Alike, look: Look, asks: Asks) -> Found
     ensures { result ≡ found_by (same_class alike.now.names) (alike_endpoints alike.now.hosts alike.now.echs) look asks.asked m.now.rules m.now.alts m.now.queries m.now.answers m.now.services m.now.attempts m.now.retries }
@@ -303,9 +304,21 @@ pub fn found_on(m: &Machine, alike: &Alike, look: Look, asks: Asks) -> Found
     if !looks(look) {
         return Found::Nothing;
     }
-    found_of(
-        look, m.rules, m.alts, m.queries, m.answers, m.services, m.attempts, m.retries, asks,
-        *alike,
+    let retry = retry_next(look.retry, m.attempts, m.retries, *alike);
+    let on = looks_on(look.next, retry);
+    let next = endpoint_next(
+        on, m.rules, m.alts, m.queries, m.answers, m.services, m.attempts, *alike,
+    );
+    first_found(
+        retry,
+        next,
+        look.query,
+        m.rules,
+        m.alts,
+        m.queries,
+        m.services,
+        asks,
+        alike.names,
     )
 }
 
