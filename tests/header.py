@@ -21,7 +21,7 @@ groups = [{name: int(n) for name, n in re.findall(r'(BRAIDHATCH_\w+) = (\d+)', g
 macros = dict(re.findall(r'#define (BRAIDHATCH_\w+)(?:\(tape_len\))? (.+)', code))
 
 refusals = {constant(name): int(n) for name, n in re.findall(r'^(\w+) = (\d+)$', read('crates/numbers/specs/Refusals.antt'), re.M)}
-refusals['BRAIDHATCH_ACCEPTED'] = int(re.search(r'^taken_number taken\.Accepted = (\d+)$', read('crates/answers/specs/Outputs.antt'), re.M).group(1))
+refusals['BRAIDHATCH_ACCEPTED'] = int(re.search(r'^taken_number \(Ok tt\) = (\d+)$', read('crates/answers/specs/Outputs.antt'), re.M).group(1))
 kinds = {constant(name): int(n) for name, n in re.findall(r'^fields \(?(\w+).*?=\s+number (\d+) ∷', read('crates/answers/specs/Answers.antt'), re.M | re.S)}
 report = read('crates/braidhatch/specs/Report.antt')
 order = re.search(r'^unfoldable pub four_numbers : \(([\w ]+) : ℕ\)', report, re.M).group(1).split()
