@@ -5,7 +5,7 @@ ghost use Rattle.listing.specs.Held.{is_for, held_count, held_at};
 
 use super::sources::Sources;
 use records::names::same_class;
-use records::queries::{Answer, Kind, is_answered, kind_number};
+use records::queries::{Answer, Kind, is_answered};
 
 // A query record and how many addresses it holds.
 #[derive(Clone, Copy)]
@@ -18,7 +18,7 @@ pub struct Holding {
 fn is_for(kind: Kind, k: Kind, a: Answer) -> bool
     ensures { result ≡ is_for kind k a }
 {
-    kind_number(k) == kind_number(kind) && is_answered(a)
+    k == kind && is_answered(a)
 }
 
 // A count cut at a size below 256.

@@ -6,8 +6,7 @@ use mathlib.Core.List.{List, [], ◌∷◌, ◌++◌}
 use native.Mathlib.Omega.{arith}
 use native.Mathlib.Decide.{dec_lt}
 use lib.Dec.{eqb as nat_eq}
-use lib.ListN.{length, take, get_or, set, length-set}
-use lib.Seq.{take_all, get_or-set_same, get_or-set_other, ext_get_or}
+use lib.ListN.{length, take, get_or, set}
 use Rattle.std.proofs.lemmas.List.{take_more_set}
 use borrow.Author.Tests.{eq-eqb, eqb-true, lt-ltb, le-ltb}
 use Rattle.records.specs.Lists.{cell}
@@ -29,23 +28,6 @@ first_next test i n h t = let e : n - i ≡ suc (n - (i + 1)) = omega arith in r
 pub first_end : (test : ℕ → Bool) (i n : ℕ) → n ≤ i → first_from test i (n - i) ≡ i
 unfolding first_from
 first_end test i n h = let e : n - i ≡ 0 = omega arith in rw e
-
--- the first that passes is q places on, if none before it does
-first-at : (test : ℕ → Bool) (i n q : ℕ) → q < n → ((k : ℕ) → k < q → test (i + k) ≡ false) → test (i + q) ≡ true → i + q ≡ first_from test i n
-unfolding first_from
-first-at test i zero q l f t = absurd (omega arith)
-first-at test i (suc n) zero l f t =
-    let z : i + 0 ≡ i = omega arith in
-    let e : true ≡ test i = sym t ∙ ap test z in
-    z ∙ ap (λ b. cond b i (first_from test (i + 1) n)) e
-first-at test i (suc n) (suc q) l f t =
-    let z : i + 0 ≡ i = omega arith in
-    let e : false ≡ test i = sym (f 0 (omega arith)) ∙ ap test z in
-    let w : i + 1 + q ≡ i + suc q = omega arith in
-    sym w ∙ (first-at test (i + 1) n q (omega arith) later (ap test w ∙ t) ∙ ap (λ b. cond b i (first_from test (i + 1) n)) e)
-  where
-    later : (k : ℕ) → k < q → test (i + 1 + k) ≡ false
-    later k h = let v : i + 1 + k ≡ i + suc k = omega arith in ap test v ∙ f (suc k) (omega arith)
 
 -- what is found passes, if one does
 first_passes : (test : ℕ → Bool) (i n j : ℕ) → j < n → test (i + j) ≡ true → test (first_from test i n) ≡ true
@@ -117,11 +99,6 @@ module _ (n : ℕ) (same : ℕ → ℕ → Bool) (t : Table n same) where
       go false e false f = refl
 
 -- the classes of a table, place by place
-classes-length : (n : ℕ) (same : ℕ → ℕ → Bool) (i m : ℕ) → length (classes_from n same i m) ≡ m
-unfolding classes_from
-classes-length n same i zero = refl
-classes-length n same i (suc m) = ap suc (classes-length n same (i + 1) m)
-
 pub classes-at : (n : ℕ) (same : ℕ → ℕ → Bool) (i m k : ℕ) → k < m → get_or (classes_from n same i m) k 0 ≡ class_of n same (i + k)
 unfolding classes_from
 classes-at n same i zero k l = absurd (omega arith)
@@ -142,69 +119,6 @@ classes_more n same list p v h t e =
     let z : suc p ≡ p + 1 = omega arith in
     take_more_set list p v h
     ∙ (ap (λ l. l ++ (v ∷ [])) t ∙ (ap (λ x. classes_from n same 0 p ++ (x ∷ [])) (e ∙ ap (class_of n same) y) ∙ (sym (classes-suc n same 0 p) ∙ ap (classes_from n same 0) z)))
-
-pub classes_end : (names : Names) (list : List ℕ) (p : ℕ) → 14 ≤ p → length list ≡ 14 → take p list ≡ classes_from 14 (same_at names) 0 p → p ≤ 14 → record { list = list } ≡ same_names names
-unfolding same_names
-classes_end names list p h l t k = λ j. record { list = (sym (take_all p list (omega arith)) ∙ (t ∙ ap (classes_from 14 (same_at names) 0) (let e : p ≡ 14 = omega arith in e))) j }
-
--- how far the code has come: places below p have their class, and none of the places below q is the same as p
-pub record Classed (n : ℕ) (same : ℕ → ℕ → Bool) (list : List ℕ) (p q : ℕ) : Type 0 where
-  pub within : p ≤ n
-  pub behind : q ≤ p
-  pub long : length list ≡ n
-  pub done : (k : ℕ) → k < p → get_or list k 0 ≡ class_of n same k
-  pub none : (k : ℕ) → k < q → same k p ≡ false
-
-pub classed-none : (n : ℕ) (same : ℕ → ℕ → Bool) (list : List ℕ) → length list ≡ n → Classed n same list 0 0
-classed-none n same list e = record { within = omega arith; behind = omega arith; long = e; done = λ k h. absurd (omega arith); none = λ k h. absurd (omega arith) }
-
-module _ (n : ℕ) (same : ℕ → ℕ → Bool) (list : List ℕ) (p q : ℕ) (c : Classed n same list p q) where
-  -- the class of p is found, and the next place is looked at
-  classed-found : (v : ℕ) → p < n → v ≡ class_of n same p → Classed n same (set list p v) (p + 1) 0
-  classed-found v h e =
-      record {
-        within = omega arith;
-        behind = omega arith;
-        long = length-set list p v ∙ c.long;
-        done = λ k l. elim (dec_lt k p) [ yes m ↦ get_or-set_other list p k v 0 (λ f. absurd (omega arith)) ∙ c.done k m | no m ↦ last k (omega arith) ];
-        none = λ k l. absurd (omega arith);
-      }
-    where
-      last : (k : ℕ) → k ≡ p → get_or (set list p v) k 0 ≡ class_of n same k
-      last k f = ap (λ i. get_or (set list p v) i 0) f ∙ (get_or-set_same list p v 0 (omega (arith, c.long)) ∙ (e ∙ ap (class_of n same) (sym f)))
-
-  pub classed-out : p < n → same n p ≡ true → Classed n same (set list p n) (p + 1) 0
-  unfolding class_of
-  classed-out h e = classed-found n h (ap (λ b. cond b n (first_from (λ k. same k p) 0 n)) (sym e))
-
-  pub classed-here : p < n → same n p ≡ false → same q p ≡ true → Classed n same (set list p q) (p + 1) 0
-  unfolding class_of
-  classed-here h e f = classed-found q h (found ∙ ap (λ b. cond b n (first_from (λ k. same k p) 0 n)) (sym e))
-    where
-      found : q ≡ first_from (λ k. same k p) 0 n
-      found = let z : 0 + q ≡ q = omega arith in sym z ∙ first-at (λ k. same k p) 0 n q (omega (arith, c.behind)) before (ap (λ k. same k p) z ∙ f)
-        where
-          before : (k : ℕ) → k < q → same (0 + k) p ≡ false
-          before k l = let z : 0 + k ≡ k = omega arith in ap (λ j. same j p) z ∙ c.none k l
-
-  -- a place that is like none before it is its own class
-  pub classed-own : Equivalence same → p < n → same n p ≡ false → q ≡ p → Classed n same (set list p p) (p + 1) 0
-  classed-own a h e f = rw (f) at (classed-here h e (ap (λ k. same k p) f ∙ a.itself p))
-
-  pub classed-next : q < p → same q p ≡ false → Classed n same list p (q + 1)
-  classed-next h e =
-      record {
-        within = c.within;
-        behind = omega arith;
-        long = c.long;
-        done = c.done;
-        none = λ k l. elim (dec_lt k q) [ yes m ↦ c.none k m | no m ↦ let f : k ≡ q = omega arith in ap (λ j. same j p) f ∙ e ];
-      }
-
-  pub classed-end : n ≤ p → list ≡ classes_from n same 0 n
-  classed-end h =
-      ext_get_or 0 list (classes_from n same 0 n) (c.long ∙ sym (classes-length n same 0 n))
-      (λ k l. let z : 0 + k ≡ k = omega arith in c.done k (omega (arith, c.long)) ∙ (ap (class_of n same) (sym z) ∙ sym (classes-at n same 0 n k (omega (arith, c.long)))))
 
 -- what the classes of a table say of a place; outside it the last number
 pub class-is : (n : ℕ) (same : ℕ → ℕ → Bool) → Table n same → (p : ℕ) → cell n 0 n (classes_from n same 0 n) p ≡ class_of n same p

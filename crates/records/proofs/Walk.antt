@@ -1,7 +1,7 @@
 -- Walking over the first n members of a list, one index a turn.
 use Prim.Native.Nat.{ℕ, ◌+◌, ◌≤◌, ◌<◌}
 use mathlib.Core.Path.{◌≡◌}
-use mathlib.Core.Bool.{Bool, true, false}
+use mathlib.Core.Bool.{Bool, false}
 use mathlib.Core.List.{List, [], ◌∷◌}
 use native.Mathlib.Numerals.{add-one}
 use native.Mathlib.Omega.{arith}
@@ -28,10 +28,6 @@ module _ {A : Type 0} (d : A) (test : A → Bool) (n : ℕ) (l : List A) (i : �
   pub some_more : i < n → i < length l → test (get_or l i d) ≡ false → some? test (drop (i + 1) (take n l)) ≡ t
   unfolding some?
   some_more h k e = rw (rest_more n l i d h k, e) at p
-
-  pub some-here : i < n → i < length l → test (get_or l i d) ≡ true → true ≡ t
-  unfolding some?
-  some-here h k e = rw (rest_more n l i d h k, e) at p
 
   pub some-none : n ≤ i → false ≡ t
   unfolding some?

@@ -83,7 +83,7 @@ pub fn same_head(a: Endpoint, b: Endpoint) -> bool
     ensures { result ≡ same_head a b }
 {
     a.port == b.port
-        && rank_number(a.rank) == rank_number(b.rank)
+        && a.rank == b.rank
         && same_numbers(a.target, b.target)
         && same_sealed(a.ech, b.ech)
 }

@@ -4,7 +4,7 @@ ghost use Rattle.numbers.specs.Names.{undotted};
 ghost use Rattle.records.specs.Names.{no_name, no_ech, no_names, no_echs, name_bytes, ech_bytes, name_at, ech_at, host_at, same_bytes, same_name, same_at, connect_name};
 ghost use Rattle.records.specs.Classes.{same_names, same_class, class_at};
 
-use super::places::{Places, class_of};
+use super::places::{Places, classes};
 
 // 1 to 253 bytes, with one trailing dot or none; empty where there is none. `Name` and `Ech` are two types, so that neither stands for the
 // other; one over a size would save four lines, and each definition of names would say the size.
@@ -250,15 +250,13 @@ pub fn same_ech(a: Ech, b: Ech) -> bool
 }
 
 // The classes of the table's names.
-#[tactic(auto, unfolding(crate::specs::Classes::same_names, crate::specs::Classes::classes_from), using(crate::proofs::Classes::classes_end))]
+#[tactic(auto, unfolding(crate::specs::Classes::same_names))]
 pub fn same_names(names: Names) -> SameNames
     ensures { result ≡ same_names names }
 {
-    let mut list = [0u8; 14];
-    for p in 0..14u8 {
-        list[p as usize] = class_of(&names, 14, p);
+    SameNames {
+        list: classes::<Names, 14>(&names),
     }
-    SameNames { list }
 }
 
 // The class of a place; 14 outside the table.

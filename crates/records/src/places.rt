@@ -1,6 +1,6 @@
 // Which places of a table hold the same, by number: decisions ask this in place of the bytes.
-ghost use Rattle.std.specs.Prelude.{ℕ, Bool, ◌≡◌};
-ghost use Rattle.records.specs.Classes.{class_of};
+ghost use Rattle.std.specs.Prelude.{ℕ, Bool, ◌≡◌, ◌<◌};
+ghost use Rattle.records.specs.Classes.{class_of, classes_from};
 
 // A table whose places are compared. A place outside it is one that holds nothing.
 pub trait Places {
@@ -24,4 +24,16 @@ pub fn class_of<T: Places>(table: &T, n: u8, p: u8) -> u8
         }
     }
     n
+}
+
+// The classes of a table of N places. One byte tells a place, so what lies past the first 255 is left out.
+pub fn classes<T: Places, const N: usize>(table: &T) -> [u8; N]
+    ensures { N < 256 → result ≡ classes_from N (T.alike table.now) 0 N }
+{
+    let n = N.min(255) as u8;
+    let mut list = [0u8; N];
+    for p in 0..n {
+        list[p as usize] = class_of(table, n, p);
+    }
+    list
 }

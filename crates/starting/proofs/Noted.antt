@@ -1,14 +1,13 @@
 -- Looking at the records one after the other: what is noted of the first ones, with what there is in the rest, is what there is in all.
 use Rattle.std.specs.Prelude.{Option, Some, None}
-use Prim.Native.Nat.{ℕ, ◌+◌, ◌≤◌, ◌<◌, min}
+use Prim.Native.Nat.{ℕ, ◌+◌, ◌≤◌, ◌<◌}
 use native.Mathlib.Numerals.{add-one}
-use Rattle.std.proofs.lemmas.List.{take_min}
 use mathlib.Core.Path.{◌≡◌, refl, sym, ap, ◌∙◌}
 use mathlib.Core.Bool.{Bool, true, false, not, cond, ◌&&◌, ◌||◌}
 use mathlib.Core.List.{List, [], ◌∷◌}
 use native.Mathlib.Omega.{arith}
 use lib.Dec.{eqb as nat_eq}
-use lib.ListN.{length, take, drop, get_or, drop_of_length-le}
+use lib.ListN.{length, drop, get_or, drop_of_length-le}
 use lib.Seq.{drop-cons}
 use Rattle.records.specs.Lists.{some?}
 use Rattle.records.specs.Numbers.{kind_number}
@@ -19,7 +18,6 @@ use Rattle.records.specs.declared.queries.Answer.{Answer}
 use Rattle.records.specs.declared.queries.Answer.TheVariants as answer
 use Rattle.records.specs.declared.queries.Query.{Query}
 use Rattle.records.specs.declared.queries.Queries.{Queries}
-use Rattle.records.proofs.Walk.{rest_more, rest-none, rest_end}
 use Rattle.state.specs.State.{asked, tried, no_attempt, is_open}
 use Rattle.state.specs.declared.attempts.Attempt.{Attempt}
 use Rattle.state.specs.declared.attempts.Attempts.{Attempts}
@@ -28,10 +26,6 @@ use Rattle.starting.specs.declared.surveys.Tries.{Tries}
 use Rattle.starting.specs.declared.surveys.Asks.{Asks}
 use Rattle.starting.specs.Surveys.{first_place, later_of, sooner_of, latest_of, oldest_of, starts, is_open_attempt, has_won_attempt, tries_of, is_kind, is_answered, is_answered_kind, kinds_of, came, answer_times, has_address, is_flying, is_due_query, asks_of}
 use Rattle.starting.specs.Noting.{or_place, place_if, one_if, later_if, sooner_by, noted_attempt, no_kinds, with_kind, noted_query}
-
--- a list cut at its room is the list cut
-pub first-all : {A : Type 0} (k n : ℕ) (l : List A) → length l ≡ k → take (min n k) l ≡ take n l
-first-all k n l e = rw (← e) (take_min n l)
 
 -- the rest from i on is the member at i and the rest behind it
 rest : {A : Type 0} (l : List A) (i : ℕ) (d : A) → i < length l → drop i l ≡ get_or l i d ∷ drop (i + 1) l
@@ -128,13 +122,10 @@ one_at_most : (b : Bool) → one_if b ≤ 1
 one_at_most true = omega arith
 one_at_most false = omega arith
 
-pub tried-none : (l : List Attempt) → Tried l 0 no_tries
-tried-none l = record { few = omega arith; rest = refl }
-
 module _ (l : List Attempt) (i : ℕ) (t : Tries) (v : Tried l i t) where
-  pub tried-all : length l ≤ i → (a : Attempts) → length a.list ≡ 32 → l ≡ take (min a.count 32) a.list → t ≡ tries_of a
-  tried-all h a e f =
-      sym (tried-end t i) ∙ (ap (with_tried t i) (sym (drop_of_length-le l {i = i} h)) ∙ (v.rest ∙ (ap (with_tried no_tries 0) (f ∙ first-all 32 a.count a.list e) ∙ all_tried a)))
+  pub tried-all : length l ≤ i → (a : Attempts) → l ≡ tried a → t ≡ tries_of a
+  tried-all h a f =
+      sym (tried-end t i) ∙ (ap (with_tried t i) (sym (drop_of_length-le l {i = i} h)) ∙ (v.rest ∙ (ap (with_tried no_tries 0) f ∙ all_tried a)))
 
   pub tried-next : i < length l → (u : Tries) → u ≡ noted_attempt t (get_or l i no_attempt) i → Tried l (i + 1) u
   unfolding noted_attempt
@@ -221,9 +212,9 @@ abbrev pub Asked : List Query → ℕ → Asks → Type 0
 Asked l i s = with_asked s i (drop i l) ≡ with_asked no_asks 0 l
 
 module _ (l : List Query) (i : ℕ) (s : Asks) (v : Asked l i s) where
-  pub asked-all : length l ≤ i → (q : Queries) → length q.list ≡ 16 → l ≡ take (min q.count 16) q.list → s ≡ asks_of q
-  asked-all h q e f =
-      sym (asked-end s i) ∙ (ap (with_asked s i) (sym (drop_of_length-le l {i = i} h)) ∙ (v ∙ (ap (with_asked no_asks 0) (f ∙ first-all 16 q.count q.list e) ∙ all_asked q)))
+  pub asked-all : length l ≤ i → (q : Queries) → l ≡ asked q → s ≡ asks_of q
+  asked-all h q f =
+      sym (asked-end s i) ∙ (ap (with_asked s i) (sym (drop_of_length-le l {i = i} h)) ∙ (v ∙ (ap (with_asked no_asks 0) f ∙ all_asked q)))
 
   pub asked-next : i < length l → (u : Asks) → u ≡ noted_query s (get_or l i no_query) i → Asked l (i + 1) u
   asked-next h u e =
@@ -239,17 +230,3 @@ module _ {A : Type 0} (d : A) (test : A → Bool) (l : List A) (i : ℕ) (b t : 
   pub some-all : length l ≤ i → b ≡ t
   unfolding some?
   some-all h = sym (or-end b) ∙ (ap (λ w. b || some? test w) (sym (drop_of_length-le l {i = i} h)) ∙ p)
-
--- A test of the members, one after the other
-module _ {A : Type 0} (d : A) (test : A → Bool) (n : ℕ) (l : List A) (i : ℕ) (b t : Bool) (p : b || some? test (drop i (take n l)) ≡ t) where
-  pub either-next : i < n → i < length l → (u : Bool) → u ≡ b || test (get_or l i d) → u || some? test (drop (i + 1) (take n l)) ≡ t
-  unfolding some?
-  either-next h k u e = ap (λ w. w || some? test (drop (i + 1) (take n l))) e ∙ (or-more b (test (get_or l i d)) (some? test (drop (i + 1) (take n l))) ∙ (ap (λ w. b || some? test w) (sym (rest_more n l i d h k)) ∙ p))
-
-  pub either-past : n ≤ i → b ≡ t
-  unfolding some?
-  either-past h = sym (or-end b) ∙ (ap (λ w. b || some? test w) (sym (rest-none n l i h)) ∙ p)
-
-  pub either-all : length l ≤ i → b ≡ t
-  unfolding some?
-  either-all h = sym (or-end b) ∙ (ap (λ w. b || some? test w) (sym (rest_end n l i h)) ∙ p)

@@ -6,6 +6,7 @@ ghost use Rattle.starting.specs.Noting.{or_place, place_if, one_if, later_if, so
 use records::queries::{Answer, Kind, Queries, Query, Refresh, is_answered};
 use records::services::Services;
 use state::attempts::{Attempt, Attempts, has_won, is_open};
+use state::members::in_use;
 
 // For each type of record, whether there is one.
 #[derive(Clone, Copy)]
@@ -65,7 +66,7 @@ fn later(m: Option<u64>, on: bool, t: u64) -> Option<u64>
     }
     match m {
         None => Some(t),
-        Some(u) => Some(if u < t { t } else { u }),
+        Some(u) => Some(u.max(t)),
     }
 }
 
@@ -115,15 +116,13 @@ fn noted_attempt(t: Tries, a: Attempt, i: usize) -> Tries
 pub fn tries_of(attempts: Attempts) -> Tries
     ensures { result ≡ tries_of attempts }
 {
-    let n = attempts.count.min(32);
-    let tried = &attempts.list[..n];
     let mut t = Tries {
         won: false,
         active: 0,
         latest: None,
         first: None,
     };
-    for (i, &a) in tried.iter().enumerate() {
+    for (i, &a) in in_use(&attempts.list, attempts.count).iter().enumerate() {
         t = noted_attempt(t, a, i);
     }
     t
@@ -216,8 +215,6 @@ fn noted_query(s: Asks, q: Query, i: usize) -> Asks
 pub fn asks_of(queries: Queries) -> Asks
     ensures { result ≡ asks_of queries }
 {
-    let n = queries.count.min(16);
-    let asked = &queries.list[..n];
     let mut s = Asks {
         asked: no_kinds(),
         answered: no_kinds(),
@@ -227,7 +224,7 @@ pub fn asks_of(queries: Queries) -> Asks
         oldest: None,
         due: None,
     };
-    for (i, &q) in asked.iter().enumerate() {
+    for (i, &q) in in_use(&queries.list, queries.count).iter().enumerate() {
         s = noted_query(s, q, i);
     }
     s
@@ -236,11 +233,9 @@ pub fn asks_of(queries: Queries) -> Asks
 pub fn hints_of(services: Services) -> Hinted
     ensures { result ≡ hints_of services }
 {
-    let n = services.count.min(4);
-    let offered = &services.list[..n];
     let mut six = false;
     let mut four = false;
-    for s in offered {
+    for s in in_use(&services.list, services.count) {
         six = either(six, 0 < s.n6);
         four = either(four, 0 < s.n4);
     }

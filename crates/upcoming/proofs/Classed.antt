@@ -1,13 +1,11 @@
 -- Hosts and ECH bytes by class: what the bytes say, place by place, and what the code compares.
 use Prim.Native.Nat.{ℕ, ◌≤◌, ◌<◌}
 use mathlib.Core.Path.{◌≡◌, refl, sym, ap, ◌∙◌}
-use mathlib.Core.Bool.{Bool, true, false, cond}
+use mathlib.Core.Bool.{true}
 use mathlib.Core.List.{List, [], ◌∷◌}
 use native.Mathlib.Omega.{arith}
-use lib.Dec.{eqb as nat_eq}
 use lib.ListN.{length, get_or}
 use borrow.Author.Tests.{lt-ltb, le-ltb}
-use Rattle.numbers.specs.Names.{undotted}
 use Rattle.records.specs.Names.{same_bytes, name_bytes, name_bytes_at, blank_name, connect_name, host_at, ech_bytes, ech_at, ech_bytes_at, no_ech, blank_ech}
 use Rattle.records.specs.Classes.{class_of}
 use Rattle.records.specs.Endpoints.{same_hosts, same_echs, same_endpoint}
@@ -19,7 +17,7 @@ use Rattle.records.specs.declared.endpoints.Target.{Target}
 use Rattle.records.specs.declared.endpoints.Target.TheVariants.{V4, V6, Named}
 use Rattle.records.specs.declared.endpoints.Endpoint.{Endpoint}
 use Rattle.records.proofs.Bytes.{same_refl, other_length}
-use Rattle.records.proofs.SameName.{Equivalence, same_bytes_lem, by_bytes}
+use Rattle.records.proofs.SameName.{same_bytes_lem, by_bytes}
 use Rattle.records.proofs.Classes.{Table, by-class, class-is, Held, held_bytes, name-outside, name-inside}
 use Rattle.records.proofs.Alike.{head_first}
 use Rattle.upcoming.specs.Alike.{same_host_at, same_ech_at, same_hosts_of, same_echs_of, host_class, ech_class, alike_hosts, alike_echs, alike_endpoints}
@@ -32,18 +30,6 @@ same_of f p q e = ap (λ z. same_bytes z (f q)) e ∙ same_refl (f q)
 host-outside : (names : Names) (p : ℕ) → 14 ≤ p → host_at names p ≡ host_at names 14
 unfolding host_at
 host-outside names p h = rw (name-outside names p h, name-outside names 14 (omega arith))
-
-cond-one : {A : Type 0} (b : Bool) (x : A) → cond b x x ≡ x
-cond-one true x = refl
-cond-one false x = refl
-
-origin-outside : (names : Names) → host_at names 14 ≡ host_at names 0
-unfolding host_at connect_name undotted
-origin-outside names = rw (name-outside names 14 (omega arith)) (sym (cond-one (nat_eq (length (undotted (name_bytes_at names 0))) 0) (undotted (name_bytes_at names 0))))
-
-pub host-places : (names : Names) → Equivalence (same_host_at names)
-unfolding same_host_at
-host-places names = by_bytes same_bytes same_bytes_lem (host_at names)
 
 pub host-table : (names : Names) → Table 14 (same_host_at names)
 unfolding same_host_at

@@ -1,11 +1,10 @@
 // Hosts and ECH bytes by class, worked out from the tables: bytes are compared here, and nowhere else in a call.
-ghost use Rattle.std.specs.Prelude.{◌≡◌, ◌<◌};
-ghost use Rattle.records.specs.Classes.{classes_from};
+ghost use Rattle.std.specs.Prelude.{◌≡◌};
 ghost use Rattle.upcoming.specs.Alike.{same_host_at, same_hosts_of, same_echs_of, alike_of};
 
 use super::alike::{Alike, SameEchs, SameHosts};
 use records::names::{Echs, Names, connect_name, same_bytes, same_names};
-use records::places::{Places, class_of};
+use records::places::{Places, classes};
 
 // A table of names as hosts: without their trailing dot, the origin's where a name is empty.
 #[derive(Drop)]
@@ -29,18 +28,6 @@ impl Places for Hosts<'_> {
         let origin = self.names.bytes_at(0);
         same_bytes(connect_name(origin, a), connect_name(origin, b))
     }
-}
-
-// The classes of a table of N places.
-fn classes<T: Places, const N: usize>(table: &T) -> [u8; N]
-    requires { N < 256 }
-    ensures { result ≡ classes_from N (T.alike table.now) 0 N }
-{
-    let mut list = [0u8; N];
-    for p in 0..N {
-        list[p] = class_of(table, N as u8, p as u8);
-    }
-    list
 }
 
 // The classes of hosts. The origin itself stands at place 0, and its class is 14, as outside the table.

@@ -4,7 +4,7 @@ ghost use Rattle.records.specs.Classes.{same_class};
 ghost use Rattle.upcoming.specs.Wanted.{is_asked, asked_for, is_missing, missing, place_wanted, origin_wanted, target_wanted, targets_wanted, own_name, alt_wanted, alts_wanted, or_wanted, wanted_by};
 
 use records::names::{SameNames, same_class};
-use records::queries::{Kind, Queries, kind_number};
+use records::queries::{Kind, Queries};
 use records::rules::{AltHost, Alts, Mode, Preference, Rules, allows_four, allows_six, is_named};
 use records::services::{Service, Services, any_ech, is_usable};
 use starting::surveys::{Asks, Kinds, either};
@@ -26,7 +26,7 @@ pub struct Families {
 fn is_asked(same: SameNames, k: Kind, place: u8, kind: Kind, name: u8) -> bool
     ensures { result ≡ is_asked (same_class same) k place kind name }
 {
-    kind_number(kind) == kind_number(k) && same_class(same, name, place)
+    kind == k && same_class(same, name, place)
 }
 
 fn asked_for(queries: &Queries, same: SameNames, place: u8) -> Families

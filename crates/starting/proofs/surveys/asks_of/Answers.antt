@@ -1,8 +1,6 @@
-use mathlib.Core.Path.{◌≡◌, refl, ap}
-use lib.ListN.{length, take}
+use mathlib.Core.Path.{refl}
 use native.Mathlib.Omega.{arith}
 use Rattle.starting.proofs.Noted.{asked-next, asked-all}
-use borrow.Author.Rules.{rules}
 use Rattle.starting.proofs.surveys.asks_of.Goals as goal
 
 pub loop-i-init : goal.loop-i-init
@@ -12,6 +10,4 @@ pub loop-i-preserved : goal.loop-i-preserved
 loop-i-preserved c = asked-next _ _ _ c.loop-i.invariant (omega arith) _ c.noted_query-s.ensures
 
 pub returns : goal.returns
-returns c =
-    let e : length c.args.queries.list ≡ 16 = search rules in
-    asked-all _ _ _ c.loop-i.invariant (omega arith) c.args.queries e (ap (λ n. take n c.args.queries.list) c.min-n.ensures)
+returns c = asked-all _ _ _ c.loop-i.invariant (omega arith) c.args.queries c.in_use-q-items.ensures

@@ -3,4 +3,4 @@ use Rattle.starting.proofs.Noted.{Asked}
 use Rattle.starting.proofs.surveys.asks_of.Given as goal
 
 abbrev pub invariant-loop-i : goal.invariant-loop-i
-invariant-loop-i l = Asked l.asked l.i l.s
+invariant-loop-i l = Asked l.q-items l.i l.s

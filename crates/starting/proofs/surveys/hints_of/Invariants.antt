@@ -8,5 +8,5 @@ use Rattle.starting.proofs.surveys.hints_of.Given as goal
 
 abbrev pub invariant-loop-s : goal.invariant-loop-s
 invariant-loop-s l =
-    (l.six || some? (λ x. ltb 0 x.n6) (drop l.s-index l.offered) ≡ some? (λ x. ltb 0 x.n6) l.offered)
-    × (l.four || some? (λ x. ltb 0 x.n4) (drop l.s-index l.offered) ≡ some? (λ x. ltb 0 x.n4) l.offered)
+    (l.six || some? (λ x. ltb 0 x.n6) (drop l.s-index l.s-items) ≡ some? (λ x. ltb 0 x.n6) l.s-items)
+    × (l.four || some? (λ x. ltb 0 x.n4) (drop l.s-index l.s-items) ≡ some? (λ x. ltb 0 x.n4) l.s-items)

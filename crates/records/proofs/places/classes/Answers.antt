@@ -1,10 +1,10 @@
 use native.Mathlib.Omega.{arith}
-use mathlib.Core.Path.{refl, sym, ap, ◌∙◌}
+use mathlib.Core.Path.{◌≡◌, refl, sym, ap, ◌∙◌}
 use lib.ListN.{length-set, length-replicate}
 use lib.Seq.{take_all}
 use Rattle.records.specs.Classes.{classes_from}
 use Rattle.records.proofs.Classes.{classes_more}
-use Rattle.upcoming.proofs.classes.classes.Goals as goal
+use Rattle.records.proofs.places.classes.Goals as goal
 
 pub loop-p-init : goal.loop-p-init
 unfolding classes_from
@@ -15,5 +15,8 @@ loop-p-preserved g c =
     (length-set _ _ _ ∙ c.loop-p.invariant.0, classes_more _ _ _ _ _ (omega (arith, c.loop-p.invariant.0)) c.loop-p.invariant.1 c.class_of.ensures)
 
 pub returns : goal.returns
-returns g c =
-    sym (take_all c.loop-p.p c.loop-p.list (omega (arith, c.loop-p.invariant.0))) ∙ (c.loop-p.invariant.1 ∙ ap (classes_from g.row.N (g.T.Places.alike c.args.table.now) 0) (omega arith))
+returns g c h =
+    let e : c.min-n.result ≡ g.row.N = omega (arith, h, c.min-n.ensures) in
+    sym (take_all c.loop-p.p c.loop-p.list (omega (arith, e, c.loop-p.invariant.0)))
+    ∙ (c.loop-p.invariant.1
+    ∙ (ap (λ k. classes_from k (g.T.Places.alike c.args.table.now) 0 c.loop-p.p) e ∙ ap (classes_from g.row.N (g.T.Places.alike c.args.table.now) 0) (omega (arith, e))))

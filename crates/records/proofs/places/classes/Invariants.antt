@@ -1,0 +1,7 @@
+-- The places so far have their class.
+use Rattle.std.proofs.Common.{◌≡◌, take, length}
+use Rattle.records.specs.Classes.{classes_from}
+use Rattle.records.proofs.places.classes.Given as goal
+
+abbrev pub invariant-loop-p : goal.invariant-loop-p
+invariant-loop-p g l = (length l.list ≡ g.row.N) × (take l.p l.list ≡ classes_from l.n (g.T.Places.alike l.table) 0 l.p)
