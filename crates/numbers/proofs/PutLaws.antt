@@ -1,7 +1,7 @@
 -- Laws of writing into a lent buffer.
 --     no-space, space          what `has_room` says
 --     no_room_lem, room            answer and bytes, where the bytes do not fit and where they do
---     store, store-next        one byte stored is one byte less to store; store-end: none is left
+--     store                    one byte stored is one byte less to store
 --     part_stored              a part that is written at once
 --     put-put, put_two         two writes, one after the other, are one write of both
 use mathlib.Core.Path.{◌≡◌, refl, sym, ◌∙◌}
@@ -9,10 +9,9 @@ use mathlib.Core.Bool.{Bool, true, false, not}
 use mathlib.Core.List.{List, [], ◌∷◌, ◌++◌}
 use Prim.Native.Nat.{ℕ, suc, ◌+◌, ◌≤◌, ◌<◌}
 use native.Mathlib.Nat.{add-zero}
-use native.Mathlib.Numerals.{add-one}
 use native.Mathlib.Omega.{arith}
-use lib.ListN.{length, get_or, drop, set, length-append, drop_of_length-le}
-use lib.Seq.{sets, length-sets, drop-cons, sets-eq}
+use lib.ListN.{length, set, length-append}
+use lib.Seq.{sets, length-sets, sets-eq}
 use borrow.Rule.Slice.PartMut.{put_mid}
 use lib.Dec.{leb as nat_le}
 use Rattle.std.proofs.lemmas.List.{drop-drop, append_assoc}
@@ -43,16 +42,6 @@ part_stored out at k bs ys e l h = rw (e, l, sets-eq bs out at h) (simp (drop-dr
 
 pub store : (out : List ℕ) (at i b : ℕ) (rest target : List ℕ) → sets out (at + i) (b ∷ rest) ≡ target → sets (set out (at + i) b) (at + (i + 1)) rest ≡ target
 store out at i b rest target h = let e : at + (i + 1) ≡ suc (at + i) = omega arith in rw e h
-
--- the same, where the bytes come from a list
-pub store-next : (out bs : List ℕ) (at i : ℕ) (target : List ℕ) → i < length bs → sets out (at + i) (drop i bs) ≡ target
-    → sets (set out (at + i) (get_or bs i 0)) (at + (i + 1)) (drop (i + 1) bs) ≡ target
-store-next out bs at i target h e =
-    let f : drop i bs ≡ get_or bs i 0 ∷ drop (i + 1) bs = rw add-one (drop-cons bs i 0 h) in
-    store out at i (get_or bs i 0) (drop (i + 1) bs) target (rw f at e)
-
-pub store-end : (out bs : List ℕ) (at i : ℕ) (target : List ℕ) → length bs ≤ i → sets out (at + i) (drop i bs) ≡ target → out ≡ target
-store-end out bs at i target h e = rw (drop_of_length-le bs h) at e
 
 sets-append : (out : List ℕ) (at : ℕ) (xs ys : List ℕ) → sets (sets out at xs) (at + length xs) ys ≡ sets out at (xs ++ ys)
 sets-append out at [] ys = rw add-zero refl

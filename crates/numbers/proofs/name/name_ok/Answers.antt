@@ -7,6 +7,9 @@ use Rattle.numbers.proofs.name.name_ok.Goals as goal
 pub loop-i-init : goal.loop-i-init
 loop-i-init c = (walk-rule _, omega arith, omega arith)
 
+pub returns-then-i-s : goal.returns-then-i-s
+returns-then-i-s c = grind (arith, nat_tests, name_more)
+
 pub returns-then-run-eq0 : goal.returns-then-run-eq0
 returns-then-run-eq0 c = grind (arith, nat_tests, name_more)
 
