@@ -8,6 +8,7 @@ ghost use Rattle.deal.specs.Queues.{Held, Active, members};
 // The longest listing: four services of 48 endpoints, 64 of alternative services and 16 of the origin.
 const LONGEST: usize = 272;
 
+// An enum of its own, and no Result: definition `dealing_number` numbers its four cases, and law `one_answer` speaks of them (rule 3.5).
 #[derive(Clone, Copy, Debug, PartialEq, Eq)]
 pub enum Dealing {
     Dealt,
