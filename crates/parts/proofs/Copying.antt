@@ -1,7 +1,7 @@
 -- Bytes of a body copied into a room of zeros.
 --     fits-there            bytes that fit lie in the body
 --     kept_there, kept-none what is kept of the bytes
---     put-kept              bytes that fit, put into the room by the writer, are what is kept
+--     put-kept, put_front   bytes that fit, put into the room by the writer, are what is kept
 --     kept_length, kept_front, none_kept, no_bytes_kept     the same of a copy into the front of the room
 --     kept-few              what is kept fits its room
 --     name_back, ech-back   the bytes in a room are those that were copied
@@ -53,6 +53,9 @@ put-kept room s b e f =
     let n : b.start + b.len - b.start ≡ b.len = omega arith in
     let few : 0 + length (span_bytes s b) ≤ length {A = ℕ} (replicate room 0) = rw length-replicate (omega (arith, l, x.0)) in
     rw (kept_there room s b e) (sym l, (rw n at f) ∙ (sym (put.room (replicate room 0) 0 (span_bytes s b) few).1 ∙ sets-padded 0 room (span_bytes s b) (omega (arith, l, x.0))))
+
+pub put_front : (room : ℕ) (s : List ℕ) (b : Span) (out : List ℕ) → fits room s b ≡ true → out ≡ put_bytes (replicate room 0) 0 (take (b.start + b.len - b.start) (drop b.start s)) → out ≡ padded room 0 (kept room s b)
+put_front room s b out e f = (put-kept room s b e f).1
 
 -- what a room holds once bytes that fit are in its front, and where they don't fit
 pub kept_length : (room : ℕ) (s : List ℕ) (b : Span) → fits room s b ≡ true → b.len ≡ length (kept room s b)

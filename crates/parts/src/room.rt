@@ -4,7 +4,7 @@ ghost use Rattle.records.specs.Lists.{padded};
 ghost use Rattle.parts.specs.Rooms.{fits, kept, name_in, ech_in};
 
 use numbers::field::Span;
-use numbers::put::has_room;
+use numbers::put::{has_room, put_bytes};
 use records::names::{Ech, Name};
 
 // Whether bytes lie in the body and fit a room.
@@ -16,7 +16,7 @@ fn is_kept(s: &[u8], b: Span, room: usize) -> bool
 }
 
 // The bytes in a room of N, and how many they are; none where they don't lie in the body or don't fit.
-#[tactic(auto, using(crate::proofs::Copying::kept_length, crate::proofs::Copying::kept_front, crate::proofs::Copying::none_kept, crate::proofs::Copying::no_bytes_kept), unfolding(crate::specs::Rooms::fits))]
+#[tactic(auto, using(crate::proofs::Copying::kept_length, crate::proofs::Copying::put_front, crate::proofs::Copying::none_kept, crate::proofs::Copying::no_bytes_kept), unfolding(crate::specs::Rooms::fits))]
 fn kept<const N: usize>(s: &[u8], b: Span) -> (usize, [u8; N])
     requires { N < 2 ^ 63 }
     ensures count { result.0 ≡ length (kept N s.now b) }
@@ -27,7 +27,8 @@ fn kept<const N: usize>(s: &[u8], b: Span) -> (usize, [u8; N])
         return (0, bytes);
     }
     let end = b.start + b.len;
-    bytes[..b.len].copy_from_slice(&s[b.start..end]);
+    // The room has place for them.
+    let _ = put_bytes(&mut bytes, 0, &s[b.start..end]);
     (b.len, bytes)
 }
 

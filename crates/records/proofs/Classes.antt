@@ -6,10 +6,10 @@ use mathlib.Core.List.{List, [], ◌∷◌, ◌++◌}
 use native.Mathlib.Omega.{arith}
 use native.Mathlib.Decide.{dec_lt}
 use lib.Dec.{eqb as nat_eq}
-use lib.ListN.{length, take, get_or, set}
-use Rattle.std.proofs.lemmas.List.{take_more_set}
+use lib.ListN.{length, take, drop, replicate, get_or, set}
+use Rattle.std.proofs.lemmas.List.{take_more_set, take-append-drop, length-take-le}
 use borrow.Author.Tests.{eq-eqb, eqb-true, lt-ltb, le-ltb}
-use Rattle.records.specs.Lists.{cell}
+use Rattle.records.specs.Lists.{cell, padded}
 use Rattle.records.specs.Names.{name_bytes, name_bytes_at, name_at, no_name, blank_name, same_name, same_at}
 use Rattle.records.specs.Classes.{first_from, class_of, classes_from, same_names, class_at, same_class}
 use Rattle.records.specs.declared.names.Names.{Names}
@@ -119,6 +119,13 @@ classes_more n same list p v h t e =
     let z : suc p ≡ p + 1 = omega arith in
     take_more_set list p v h
     ∙ (ap (λ l. l ++ (v ∷ [])) t ∙ (ap (λ x. classes_from n same 0 p ++ (x ∷ [])) (e ∙ ap (class_of n same) y) ∙ (sym (classes-suc n same 0 p) ∙ ap (classes_from n same 0) z)))
+
+-- a room that is filled in order up to a place, and has zeros from there on
+pub filled : (n m : ℕ) (list xs : List ℕ) → m ≤ n → length list ≡ n → take m list ≡ xs → drop m list ≡ replicate (n - m) 0 → list ≡ padded n 0 xs
+unfolding padded
+filled n m list xs h l t d =
+    let e : m ≡ length xs = sym (length-take-le m list (omega (arith, l))) ∙ ap length t in
+    sym (take-append-drop m list) ∙ (ap (λ k. k ++ drop m list) t ∙ (ap (λ k. xs ++ k) d ∙ ap (λ k. xs ++ replicate (n - k) 0) e))
 
 -- what the classes of a table say of a place; outside it the last number
 pub class-is : (n : ℕ) (same : ℕ → ℕ → Bool) → Table n same → (p : ℕ) → cell n 0 n (classes_from n same 0 n) p ≡ class_of n same p

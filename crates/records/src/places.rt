@@ -1,6 +1,7 @@
 // Which places of a table hold the same, by number: decisions ask this in place of the bytes.
-ghost use Rattle.std.specs.Prelude.{ℕ, Bool, ◌≡◌, ◌<◌};
+ghost use Rattle.std.specs.Prelude.{ℕ, Bool, ◌≡◌, ◌<◌, min};
 ghost use Rattle.records.specs.Classes.{class_of, classes_from};
+ghost use Rattle.records.specs.Lists.{padded};
 
 // A table whose places are compared. A place outside it is one that holds nothing.
 pub trait Places {
@@ -26,9 +27,10 @@ pub fn class_of<T: Places>(table: &T, n: u8, p: u8) -> u8
     n
 }
 
-// The classes of a table of N places. One byte tells a place, so what lies past the first 255 is left out.
+// The classes of a table of N places. One byte tells a place, so what lies past the first 255 is left out, and has 0.
 pub fn classes<T: Places, const N: usize>(table: &T) -> [u8; N]
-    ensures { N < 256 → result ≡ classes_from N (T.alike table.now) 0 N }
+    ensures told { result ≡ padded N 0 (classes_from (min N 255) (T.alike table.now) 0 (min N 255)) }
+    ensures all { N < 256 → result ≡ classes_from N (T.alike table.now) 0 N }
 {
     let n = N.min(255) as u8;
     let mut list = [0u8; N];
