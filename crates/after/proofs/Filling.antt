@@ -1,12 +1,13 @@
 -- Services placed one after the other, and four members stored at once.
+--     sets_first, sets_more, sets_end      members stored one by one; nothing cites these now, and docs/PORT.md names them
 use Prim.Native.Nat.{ℕ, suc, ◌+◌, ◌≤◌, ◌<◌, min}
 use mathlib.Core.Path.{◌≡◌, refl, sym, ap, ◌∙◌}
 use mathlib.Core.List.{List, [], ◌∷◌, ◌++◌, append_assoc}
 use native.Mathlib.Numerals.{add-one}
 use native.Mathlib.Omega.{arith}
-use lib.ListN.{length, take, get_or, set, length-take}
+use lib.ListN.{length, take, drop, get_or, set, length-take, drop_of_length-le}
 use borrow.Rule.Slice.PartMut.{put_mid}
-use lib.Seq.{sets, sets-eq, take-suc, length-take-le}
+use lib.Seq.{sets, sets-eq, take-suc, drop-cons, length-take-le}
 use Rattle.std.proofs.lemmas.List.{drop-drop}
 use Rattle.records.specs.Lists.{padded}
 use Rattle.records.specs.Services.{no_service, no_services}
@@ -78,3 +79,19 @@ placed_end round s out i n long m e v = λ j. record { count = number j; list = 
 -- a part written at once is its members stored one by one
 pub part_stored : {A : Type 0} (out : List A) (at k : ℕ) (bs ys : List A) → ys ≡ bs → k ≡ length bs → at + length bs ≤ length out → put_mid at k out ys ≡ sets out at bs
 part_stored out at k bs ys e l h = rw (e, l, sets-eq bs out at h) (simp (drop-drop, append_assoc))
+
+-- members stored one by one from `first` on: the first, one more, none left
+pub sets_first : {A : Type 0} (l ts : List A) (first : ℕ) → sets l (first + 0) ts ≡ sets l first ts
+sets_first l ts first = let e : first + 0 ≡ first = omega arith in ap (λ k. sets l k ts) e
+
+module _ {A : Type 0} (ts l : List A) (first i : ℕ) (t : List A) (p : sets l (first + i) (drop i ts) ≡ t) where
+  pub sets_more : (d : A) → i < length ts → sets (set l (first + i) (get_or ts i d)) (first + (i + 1)) (drop (i + 1) ts) ≡ t
+  sets_more d h =
+      let e : first + (i + 1) ≡ suc (first + i) = omega arith in
+      ap (λ k. sets (set l (first + i) (get_or ts i d)) k (drop (i + 1) ts)) e
+      ∙ ap (λ k. sets (set l (first + i) (get_or ts i d)) (suc (first + i)) (drop k ts)) (add-one i)
+      ∙ sym (ap (λ x. sets l (first + i) x) (drop-cons ts i d h))
+      ∙ p
+
+  pub sets_end : length ts ≤ i → l ≡ t
+  sets_end h = sym (ap (λ x. sets l (first + i) x) (drop_of_length-le ts {i = i} h)) ∙ p

@@ -1,7 +1,7 @@
 -- Fields one after the other, as the writer puts them.
 --     numbers_few              how many bytes some numbers take at most
 --     numbers-next, numbers_none      numbers in a loop: the first of those that are left, none left
---     store_next and the like  the same of a loop that stores them
+--     store_next and the like  the same of a loop that stores them; put_next, of its bytes alone: nothing cites it now, and docs/PORT.md names it
 --     parts, parts-put         numbers, bytes, numbers and bytes are the fields that they are; four writes are one
 --     parts_end and the like   the same as four calls answer it
 use mathlib.Core.Path.{◌≡◌, refl, sym, ap, ◌∙◌}
@@ -37,6 +37,11 @@ unfolding joined numbers_bytes
 numbers-joined [] fs = refl
 numbers-joined (n ∷ l) fs = ap (λ (x : List ℕ). number_bytes n ++ x) (numbers-joined l fs) ∙ sym (append_assoc (number_bytes n) (numbers_bytes l) (joined fs))
 
+pub numbers-fields : (l : List ℕ) → joined (map number l) ≡ numbers_bytes l
+unfolding joined numbers_bytes
+numbers-fields [] = refl
+numbers-fields (n ∷ l) = ap (λ (x : List ℕ). number_bytes n ++ x) (numbers-fields l)
+
 pub parts : (head body tail ech : List ℕ) → joined (map number head ++ (raw body ∷ (map number tail ++ (raw ech ∷ [])))) ≡ parts_bytes head body tail ech
 unfolding joined parts_bytes
 parts head body tail ech =
@@ -47,6 +52,13 @@ parts head body tail ech =
 module _ (l : List ℕ) (i : ℕ) (h : i < length l) where
   pub length_next : length (numbers_bytes (drop i l)) ≡ length (number_bytes (get_or l i 0)) + length (numbers_bytes (drop (i + 1) l))
   length_next = ap length (numbers-next l i h) ∙ length-append (number_bytes (get_or l i 0)) (numbers_bytes (drop (i + 1) l))
+
+  pub put_next : (out : List ℕ) (p : ℕ) {out₁ target : List ℕ} → p + length (numbers_bytes (drop i l)) ≤ length out
+      → put_bytes out p (numbers_bytes (drop i l)) ≡ target → out₁ ≡ put_bytes out p (number_bytes (get_or l i 0))
+      → put_bytes out₁ (p + length (number_bytes (get_or l i 0))) (numbers_bytes (drop (i + 1) l)) ≡ target
+  put_next out p r e f =
+      let n = numbers-next l i h in
+      rw f (put-put out p (number_bytes (get_or l i 0)) (numbers_bytes (drop (i + 1) l)) (rw n at r)) ∙ (rw n at e)
 
   -- one more number stored
   pub store_next : (out : List ℕ) {out₁ target : List ℕ} (p : ℕ) {q all n : ℕ} → p + length (numbers_bytes (drop i l)) ≡ all → all ≤ n → length out ≡ n

@@ -3,13 +3,15 @@
 --     query_parts                     a query's parts are its fields' bytes; four_put, six_put, host_put: an attempt's
 --     four_bytes, eight_bytes         an address, the highest byte first
 --     unsealed_put, sealed_put        an attempt with the ECH bytes of its place; host_said, rooms_said: with the names that its host comes from
+--     full_put, in_table              an output that is two numbers; a place, if it is one of the table: nothing cites these now, and docs/PORT.md names them
 use mathlib.Core.Path.{◌≡◌, refl, sym, ap, ◌∙◌}
 use mathlib.Core.Bool.{Bool, true, false, cond, ◌&&◌}
-use mathlib.Core.List.{List, [], ◌∷◌, ◌++◌}
-use Prim.Native.Nat.{ℕ, zero, suc, ◌+◌, ◌/◌, ◌≤◌}
+use mathlib.Core.List.{List, [], ◌∷◌, ◌++◌, map}
+use Prim.Native.Nat.{ℕ, zero, suc, ◌+◌, ◌/◌, ◌≤◌, ◌<◌}
 use native.Mathlib.Omega.{arith}
 use lib.ListN.{length, take, length-take}
-use lib.Dec.{eqb as nat_eq}
+use lib.Dec.{eqb as nat_eq, ltb as nat_lt}
+use borrow.Author.Tests.{lt-ltb}
 use Rattle.numbers.specs.Names.{dot, undotted}
 use Rattle.records.specs.Names.{name_bytes, ech_bytes, connect_name}
 use Rattle.records.specs.Numbers.{kind_number, rank_number}
@@ -20,11 +22,14 @@ use Rattle.records.specs.declared.names.EchPlace.TheVariants.{Without, At}
 use Rattle.records.specs.declared.endpoints.Target.{Target}
 use Rattle.records.specs.declared.endpoints.Target.TheVariants.{V4, V6, Named}
 use Rattle.records.specs.declared.endpoints.Endpoint.{Endpoint}
-use Rattle.answers.specs.Answers.{query, attempt, number, raw, bit, high_first, target_fields, joined, answer_bytes}
-use Rattle.answers.specs.Outputs.{said_target, said_endpoint}
-use Rattle.answers.specs.Parts.{parts_bytes, attempt_bytes}
+use Rattle.machine.specs.declared.grant.Table.{Table}
+use Rattle.machine.specs.declared.grant.Output.{Output}
+use Rattle.machine.specs.declared.grant.Output.TheVariants as output
+use Rattle.answers.specs.Answers.{query, attempt, full, number, raw, bit, table_number, high_first, target_fields, joined, answer_bytes}
+use Rattle.answers.specs.Outputs.{said_target, said_endpoint, said_by}
+use Rattle.answers.specs.Parts.{numbers_bytes, parts_bytes, attempt_bytes}
 use Rattle.std.specs.Int.{w32, w64, to_be_bytes}
-use Rattle.answers.proofs.Joined.{parts}
+use Rattle.answers.proofs.Joined.{numbers-fields, parts}
 
 taken : (k : ℕ) (x : List ℕ) → take (length (take k x)) x ≡ take k x
 taken zero x = refl
@@ -146,3 +151,13 @@ rooms_said id retry e origin own ech n m k f g h =
     ap (λ x. answer_bytes (attempt id retry (said_endpoint (connect_name x (take m own.bytes)) (take k ech.bytes) e))) (name_taken origin f)
     ∙ ap (λ x. answer_bytes (attempt id retry (said_endpoint (connect_name (name_bytes origin) x) (take k ech.bytes) e))) (name_taken own g)
     ∙ ap (λ x. answer_bytes (attempt id retry (said_endpoint (connect_name (name_bytes origin) (name_bytes own)) x e))) (ech_taken ech h)
+
+-- an output that is two numbers
+module _ (origin name ech : List ℕ) {o : Output} where
+  pub full_put : {x : Table} {n : ℕ} → o ≡ output.Full x → n ≡ table_number x → numbers_bytes (7 ∷ n ∷ []) ≡ answer_bytes (said_by origin name ech o)
+  unfolding answer_bytes
+  full_put {x} t e = rw (t, e) (sym (numbers-fields (7 ∷ table_number x ∷ [])))
+
+-- a place, if it is one of the table
+pub in_table : (size : ℕ) {p q : ℕ} → p ≡ q → p < size → p ≡ cond (nat_lt q size) q 0
+in_table size {p} {q} e h = simp (lt-ltb q size (omega arith)) e

@@ -1,11 +1,11 @@
 -- Filling a room with references one after the other, and what that comes to for an order that was dealt.
-use Prim.Native.Nat.{ℕ, ◌+◌, ◌≤◌, ◌<◌}
+use Prim.Native.Nat.{ℕ, ◌+◌, ◌-◌, ◌≤◌, ◌<◌}
 use mathlib.Core.Path.{◌≡◌, refl, sym, ap, ◌∙◌}
 use mathlib.Core.Bool.{Bool, true, false}
 use mathlib.Core.List.{List, [], ◌∷◌, ◌++◌, map, append_assoc, map-append}
 use native.Mathlib.Numerals.{add-one}
 use native.Mathlib.Omega.{arith}
-use lib.ListN.{length, take, get_or, set, length-append, length-map}
+use lib.ListN.{length, take, get_or, set, length-append, length-map, replicate}
 use lib.Seq.{take-suc, length-take-le, get_or-take}
 use Rattle.deal.specs.Interleaving.{interleave, order, Grouped}
 use Rattle.deal.proofs.Laws.{by_order, order_below, length-order, group-below}
@@ -33,6 +33,10 @@ members-tiered xs t e = ap tier_members e ∙ padded-take no_item 80 xs
 pub count-tiered : (xs : List Item) (t : Tier) → t ≡ tiered xs → t.count ≡ length xs
 unfolding tiered
 count-tiered xs t e = ap (λ x. x.count) e
+
+pub long-tiered : (xs : List Item) (t : Tier) → t ≡ tiered xs → length xs ≤ length t.list
+unfolding tiered padded
+long-tiered xs t e = let f : length t.list ≡ length xs + length (replicate (80 - length xs) no_item) = ap (λ x. length x.list) e ∙ length-append xs (replicate (80 - length xs) no_item) in omega arith
 
 pub map-id : {A : Type 0} (xs : List A) → map (λ x. x) xs ≡ xs
 map-id [] = refl

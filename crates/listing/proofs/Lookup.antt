@@ -1,4 +1,5 @@
 -- Looking for the first answered record of a name and type, one record a turn.
+--     held_none      past the first n of a list; nothing cites it now, and docs/PORT.md names it
 use Prim.Native.Nat.{ℕ, ◌+◌, ◌≤◌, ◌<◌, min}
 use Rattle.std.proofs.lemmas.List.{take_min}
 use mathlib.Core.Path.{◌≡◌, sym, ap, ◌∙◌}
@@ -11,6 +12,7 @@ use Rattle.listing.specs.Held.{Same, is_for, is_held, held_count, first_held, he
 use Rattle.records.specs.Queries.{no_query}
 use Rattle.records.specs.declared.queries.Kind.{Kind}
 use Rattle.records.specs.declared.queries.Query.{Query}
+use Rattle.records.proofs.Walk.{rest-none}
 use Rattle.records.specs.declared.queries.Queries.{Queries}
 use Rattle.listing.specs.declared.held.Holding.{Holding}
 
@@ -44,3 +46,9 @@ module _ (same : Same) (kind : Kind) (place : ℕ) (q : Query) (b : Bool) (e : b
 pub held-all : (same : Same) (q : Queries) (kind : Kind) (place n : ℕ) → length q.list ≡ 16 → n ≡ min q.count 16 → first_held (is_held same kind place) 0 (take n q.list) ≡ held_at same q kind place
 unfolding held_at
 held-all same q kind place n e f = ap (first_held (is_held same kind place) 0) (ap (λ m. take m q.list) (f ∙ ap (min q.count) (sym e)) ∙ take_min q.count q.list)
+
+-- past the first n of a list
+module _ (test : Query → Bool) (n : ℕ) (l : List Query) (i : ℕ) (t : Holding) (p : first_held test i (drop i (take n l)) ≡ t) where
+  pub held_none : n ≤ i → record { query = 0; count = 0 } ≡ t
+  unfolding first_held
+  held_none h = rw (rest-none n l i h) at p

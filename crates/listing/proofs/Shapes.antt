@@ -1,4 +1,5 @@
 -- The runs that the code makes, empty ones among them, have the endpoints of those that the listing asks for.
+--     none_runs      runs that are off are empty; nothing cites it now, and docs/PORT.md names it
 use Prim.Native.Nat.{ℕ, suc, ◌+◌, ◌-◌}
 use mathlib.Core.Path.{◌≡◌, refl, ap, ◌∙◌}
 use mathlib.Core.Bool.{Bool, true, false, cond}
@@ -17,10 +18,13 @@ use Rattle.listing.specs.Held.{Same}
 use Rattle.records.specs.Lists.{each}
 use Rattle.records.specs.Rules.{no_alt}
 use Rattle.listing.specs.Items.{run_items}
-use Rattle.listing.specs.Listing.{combined, quic, host_runs, tier_items, alt_runs, alts_from, origin_runs, last_runs}
+use Rattle.listing.specs.Listing.{combined, quic, nothing, host_runs, tier_items, alt_runs, alts_from, origin_runs, last_runs}
 use Rattle.listing.specs.Room.{ranked, host_runs_if, both_runs, at_ranks, alt_runs_at}
 use Rattle.records.specs.declared.endpoints.Rank.{Rank}
 use Rattle.records.specs.declared.names.EchPlace.{EchPlace}
+use Rattle.records.specs.declared.names.EchPlace.TheVariants.{Without}
+use Rattle.records.specs.declared.endpoints.Rank.TheVariants as rank
+use Rattle.listing.specs.declared.runs.HostRuns.{HostRuns}
 use Rattle.listing.specs.declared.hosts.HostTargets.{HostTargets}
 use Rattle.listing.specs.declared.versions.Ranks.{Ranks}
 use Rattle.listing.specs.declared.runs.Run.{Run}
@@ -98,3 +102,7 @@ last-five r a q n e =
     ap (λ l. tier_items (l ++ origin_runs r q n)) (alts-four r q n a e)
     ∙ ap tier_items (simp append_assoc)
     ∙ five (alt_runs_at r q n a 0) (alt_runs_at r q n a 1) (alt_runs_at r q n a 2) (alt_runs_at r q n a 3) (origin_runs r q n)
+
+-- where there is no alternative service its runs are empty
+pub none_runs : (x : HostRuns) → x ≡ host_runs_if false nothing 0 Without rank.H3 → tier_items (both_runs x) ≡ tier_items []
+none_runs x e = ap (λ y. tier_items (both_runs y)) e ∙ runs-if false nothing 0 Without rank.H3

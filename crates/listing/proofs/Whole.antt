@@ -1,4 +1,5 @@
 -- The listing out of its tiers: what tier k is, how many there are, one tier more at the end, and the first of it that passes a test.
+--     Next, next_more      one reference more of a tier; nothing cites these now, and docs/PORT.md names them
 use Prim.Native.Nat.{ℕ, zero, suc, ◌+◌, ◌*◌, ◌-◌, ◌≤◌, ◌<◌}
 use mathlib.Core.Path.{◌≡◌, refl, sym, ap, ◌∙◌}
 use mathlib.Core.Bool.{Bool, true, false, cond}
@@ -6,7 +7,7 @@ use mathlib.Core.List.{List, [], ◌∷◌, ◌++◌, map, map-map, append_assoc
 use native.Mathlib.Numerals.{add-one}
 use native.Mathlib.Decide.{dec_lt}
 use native.Mathlib.Omega.{arith}
-use lib.ListN.{length, take, drop, get_or, replicate, length-append, length-map, get_or-append, get_or-eq_default, take-append-drop}
+use lib.ListN.{length, take, drop, get_or, set, replicate, length-append, length-map, get_or-append, get_or-eq_default, take-append-drop}
 use lib.Seq.{take-suc, take_all, get_or-append-add, take-append_seam, drop-append_seam}
 use Rattle.deal.specs.Interleaving.{interleave, upto}
 use Rattle.deal.proofs.Laws.{map-upto}
@@ -28,7 +29,7 @@ use Rattle.listing.specs.Listing.{service_at, service_runs, last_runs, usable, t
 use Rattle.listing.specs.Room.{listed, tiered}
 use Rattle.listing.proofs.Tiers.{each_append, each-one, each_none, each_map}
 use Rattle.listing.proofs.Bounds.{service_le, last_le}
-use Rattle.listing.proofs.Appending.{dealt-length, members-tiered, count-tiered}
+use Rattle.listing.proofs.Appending.{dealt-length, members-tiered, count-tiered, long-tiered, fill_more}
 use borrow.Rule.Slice.PartMut.{put_mid}
 use Rattle.std.proofs.lemmas.List.{drop-replicate}
 use Rattle.listing.proofs.Priorities.{usable-four}
@@ -207,6 +208,18 @@ module _ (r : Rules) (a : Alts) (q : Queries) (s : Services) (n : Same) where
           place = omega (arith, v.place, d, ap length (before_more k h), length-append (before k) (tier_at r a q s n k));
           holds = rw (v.holds, v.place, g, c ∙ d) (put-behind 272 no_item (before k) (tier_at r a q s n k)) ∙ ap (padded 272 no_item) (sym (before_more k h));
         }
+
+  -- after k tiers, j references of the next one
+  pub record Next (k : ℕ) (t : Tier) (j at : ℕ) (list : List Item) : Type 0 where
+    pub within : j ≤ t.count
+    pub place : at ≡ length (before k) + j
+    pub holds : list ≡ padded 272 no_item (before k ++ map (λ x. x) (take j t.list))
+
+  module _ (k : ℕ) (t : Tier) (h : k < tier_count r s) (e : t ≡ tiered (tier_at r a q s n k)) (j at : ℕ) (list : List Item) (v : Next k t j at list) where
+    pub next_more : j < t.count → at < 272 → Next k t (j + 1) (at + 1) (set list at (get_or t.list j no_item))
+    next_more l room =
+        let m : j < length t.list = omega (arith, count-tiered (tier_at r a q s n k) t e, long-tiered (tier_at r a q s n k) t e) in
+        record { within = omega arith; place = omega (arith, v.place); holds = fill_more 272 no_item (before k) (λ x. x) t.list j at list v.holds v.place m room }
 
   module _ (k at : ℕ) (list : List Item) (v : Filled k at list) where
     pub filled-end : tier_count r s ≤ k → record { count = at; list = list } ≡ listed (items_to_attempt r a q s n)

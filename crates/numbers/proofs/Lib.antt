@@ -1,5 +1,6 @@
 -- Laws that several proofs, and the crates above, cite.
 pub mod BitLaws
+pub mod BoolLaws
 pub mod Cases
 pub mod NameLaws
 pub mod NameWalk

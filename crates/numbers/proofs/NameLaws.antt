@@ -1,5 +1,6 @@
 -- The loop of `name_ok`: what each of its ways says of the rest of the name.
-use mathlib.Core.Path.{◌≡◌, refl}
+--     too_long, one_more      a byte in a label that has 63, or fewer; nothing cites these now, and docs/PORT.md names them
+use mathlib.Core.Path.{◌≡◌, refl, ◌∙◌}
 use mathlib.Core.Bool.{Bool, true, false, ◌&&◌, cond}
 use mathlib.Core.List.{List, ◌∷◌}
 use Prim.Native.Nat.{ℕ, ◌+◌, ◌-◌, ◌≤◌, ◌<◌}
@@ -8,6 +9,7 @@ use native.Mathlib.Omega.{arith}
 use lib.ListN.{length, get_or, drop, length-drop, drop_of_length-le}
 use lib.Seq.{drop-cons}
 use lib.Dec.{ltb as nat_lt, eqb as nat_eq}
+use borrow.Author.Tests.{ne_eqb, lt-ltb, le-ltb}
 use Rattle.numbers.specs.Names.{dot, is_digit, name_byte}
 use Rattle.numbers.specs.Walk.{digit_of, walk}
 
@@ -30,3 +32,11 @@ one_at_most false = omega arith
 pub digit_at_most : (b : ℕ) → digit_of b ≤ 1
 unfolding digit_of
 digit_at_most b = one_at_most (is_digit b)
+
+module _ (s : List ℕ) (i run digits : ℕ) (inside : i < length s) where
+  pub too_long : (get_or s i 0 ≡ 46 → ⊥) → name_byte (get_or s i 0) ≡ true → 63 ≤ run → walk run digits (drop i s) ≡ false
+  too_long e n l = name_more s i run digits inside ∙ simp (ne_eqb (get_or s i 0) 46 e, n, le-ltb run 63 l)
+
+  pub one_more : (get_or s i 0 ≡ 46 → ⊥) → name_byte (get_or s i 0) ≡ true → run < 63
+      → walk run digits (drop i s) ≡ walk (run + 1) (digits + digit_of (get_or s i 0)) (drop (i + 1) s)
+  one_more e n l = name_more s i run digits inside ∙ simp (ne_eqb (get_or s i 0) 46 e, n, lt-ltb run 63 l)

@@ -1,6 +1,8 @@
 -- A second pass stores items in a row, one after the other, into a room of zeros; over any item, and what is stored of it.
---     fill_start, fill_more, fill_none, fill_end   a loop that stores: at its start, one item more, one refused, none left
---     fill-over                                    more items than there is room for
+--     fill_more, fill_fault, fill_done   a loop that stores: one item more, one refused, none left
+--     fill_none, fill_all                what was refused, or stored, is what is listed
+--     fill_start, fill_end               at the start of a loop that counts its items, and after the last; nothing cites these now, and docs/PORT.md names them
+--     fill-over                          more items than there is room for
 use mathlib.Core.Path.{◌≡◌, refl, sym, ap, ◌∙◌}
 use mathlib.Core.List.{List, [], ◌∷◌, ◌++◌, map}
 use Prim.Native.Nat.{ℕ, zero, suc, ◌+◌, ◌-◌, ◌≤◌, ◌<◌}
@@ -71,6 +73,15 @@ module _ {A B : Type 0} (g : A → B) where
     pub fill_all : {out : List B} {p : ℕ} → read out p ≡ stored g (replicate m z) 0 (items f l.count l.first) → (l.count ≡ length (listed m f l)) × (out ≡ padded m z (map g (listed m f l)))
     unfolding listed
     fill_all u = rw (le-leb l.count m few) (all_found u (items f l.count l.first) refl)
+
+module _ {A B : Type 0} (g : A → B) (f : ℕ → Reading A) where
+  pub fill_start : (n first : ℕ) (out : List B) → stored g out 0 (items f (n - 0) first) ≡ stored g out 0 (items f n first)
+  fill_start n first out = let e : n - 0 ≡ n = omega arith in rw e
+
+  module _ (l : Items) (m : ℕ) (few : l.count ≤ m) (z : B) (i p : ℕ) (out : List B)
+      (h : stored g out i (items f (l.count - i) p) ≡ stored g (replicate m z) 0 (items f l.count l.first)) where
+    pub fill_end : l.count ≤ i → (l.count ≡ length (listed m f l)) × (out ≡ padded m z (map g (listed m f l)))
+    fill_end b = fill_all g f l m few z (fill_done g f l.count out i p (stored g (replicate m z) 0 (items f l.count l.first)) h b)
 
 pub fill-over : {A : Type 0} (f : ℕ → Reading A) (m : ℕ) (l : Items) → m < l.count → listed m f l ≡ []
 unfolding listed

@@ -1,14 +1,16 @@
 -- Comparing two byte strings, one byte a turn; the part of a room that a length cuts.
-use Prim.Native.Nat.{ℕ, suc, min}
+--     same_more, same_not, same_end      a walk over both by an index; nothing cites these now, and docs/PORT.md names them
+use Prim.Native.Nat.{ℕ, suc, ◌+◌, ◌<◌, ◌≤◌, min}
 use mathlib.Core.Path.{◌≡◌, refl, sym, ap, ◌∙◌}
 use mathlib.Core.Bool.{Bool, true, false, ◌&&◌}
 use mathlib.Core.List.{List, [], ◌∷◌}
+use native.Mathlib.Numerals.{add-one}
 use native.Mathlib.Omega.{arith}
 use native.Mathlib.Decide.{dec_lt}
 use lib.Dec.{eqb as nat_eq}
 use lib.Pointwise.{pointwise}
-use lib.ListN.{length, take}
-use lib.Seq.{take_all}
+use lib.ListN.{length, take, drop, get_or, drop_of_length-le}
+use lib.Seq.{drop-cons, take_all}
 use borrow.Author.Tests.{eq-eqb, eqb-true}
 use Rattle.records.specs.Names.{same_bytes}
 
@@ -23,6 +25,20 @@ other_length (a ∷ x) (b ∷ y) h = first (nat_eq a b) (other_length x y (λ e.
     first : (t : Bool) → false ≡ same_bytes x y → false ≡ t && same_bytes x y
     first true e = e
     first false e = refl
+
+-- a walk over both by an index: one byte more, one that differs, none left
+module _ (x y : List ℕ) (i : ℕ) (t : Bool) (p : same_bytes (drop i x) (drop i y) ≡ t) where
+  pub same_more : i < length x → i < length y → get_or x i 0 ≡ get_or y i 0 → same_bytes (drop (i + 1) x) (drop (i + 1) y) ≡ t
+  unfolding same_bytes
+  same_more h k e = rw (add-one) (rw (drop-cons x i 0 h, drop-cons y i 0 k, eq-eqb _ _ e) at p)
+
+  pub same_not : i < length x → i < length y → nat_eq (get_or x i 0) (get_or y i 0) ≡ false → false ≡ t
+  unfolding same_bytes
+  same_not h k e = rw (drop-cons x i 0 h, drop-cons y i 0 k, e) at p
+
+  pub same_end : length x ≤ i → length y ≤ i → true ≡ t
+  unfolding same_bytes
+  same_end h k = rw (drop_of_length-le x {i = i} h, drop_of_length-le y {i = i} k) at p
 
 -- the same exactly if equal
 pub same_refl : (x : List ℕ) → same_bytes x x ≡ true

@@ -1,4 +1,5 @@
 -- Laws that several proofs, and the crates above, cite.
+pub mod Answering
 pub mod Checking
 pub mod Framed
 pub mod Settled

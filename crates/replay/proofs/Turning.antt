@@ -2,6 +2,7 @@
 --     tied-start      before the first event
 --     tied-go         one event more: the one law of every arm that goes on
 --     tied-next       the same, where the code counts the call and keeps the machine
+--     tied_by         the same of the parts that a change is stored in; the code needs it no more, and docs/PORT.md names it
 --     tied-end, tied-refused, tied-full      the three ways to stop
 --     stopped         what a stopped run gives back
 use Prim.Native.Nat.{ℕ, zero, suc, ◌+◌, ◌≤◌, ◌<◌}
@@ -20,11 +21,16 @@ use Rattle.numbers.specs.Put.{put_answer, put_bytes}
 use Rattle.numbers.proofs.PutLaws.{no_room_lem, room}
 use Rattle.numbers.proofs.Cases.{less-or-not}
 use Rattle.state.specs.declared.Machine.{Machine}
+use Rattle.machine.specs.declared.calls.Beside.{Beside}
 use Rattle.answers.specs.Answers.{answer_bytes}
 use Rattle.replay.specs.Frames.{Frame, frame_at}
 use Rattle.replay.specs.Replay.{Step, step_of, Run, ended, ahead, run, run_from}
+use Rattle.replies.specs.declared.Change.{Change}
+use Rattle.replies.specs.declared.Touched.{Touched}
+use Rattle.replies.specs.Replies.{after}
+use Rattle.replay.specs.Race.{Proper}
 use Rattle.replay.proofs.Framed.{frame-lies}
-use Rattle.replay.proofs.Steps.{few-calls}
+use Rattle.replay.proofs.Steps.{few-calls, parts_by, touched_in, stored-by}
 
 -- `rest`, behind what is written and counted, is `all`
 pub record Onto (out₀ out : List ℕ) (written calls : ℕ) (rest all : Run) : Type 0 where
@@ -162,3 +168,8 @@ module _ (tape out₀ : List ℕ) (first : ℕ) (m₀ : Machine) (at written cal
     pub tied-next : Tied tape out₀ first m₀ at written calls out m → at < length tape → {end n : ℕ} {out' : List ℕ} {m' : Machine} → n ≡ s.calls → m' ≡ s.machine → put.placed end ≡ put_answer out written (answer_bytes s.said)
         → out' ≡ put_bytes out written (answer_bytes s.said) → Tied tape out₀ first m₀ next end (calls + n) out' m'
     tied-next i l e f p q = rw (e, f) (tied-go i l p q)
+
+-- the parts as they are stored
+pub tied_by : (tape out₀ : List ℕ) (first : ℕ) (m₀ : Machine) (at written calls : ℕ) (out : List ℕ) (m : Machine) (c : Change) (b : Beside) {x t : Touched} → Proper c → x ≡ touched_in m c → x ≡ t
+    → Tied tape out₀ first m₀ at written calls out (after m c b) → Tied tape out₀ first m₀ at written calls out (parts_by t m c b)
+tied_by tape out₀ first m₀ at written calls out m c b {x} {t} s e f i = let z : after m c b ≡ parts_by t m c b = sym (stored-by m c b s e f) in rw z at i

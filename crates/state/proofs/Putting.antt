@@ -1,4 +1,5 @@
 -- Bytes behind those of a name, as far as there is room.
+--     put_on      the same of a room and the place after what stands in it; nothing cites it now, and docs/PORT.md names it
 use Prim.Native.Nat.{ℕ, zero, suc, ◌+◌, ◌-◌, ◌≤◌, ◌<◌, min}
 use mathlib.Core.Path.{◌≡◌, refl, sym, ap, ◌∙◌}
 use mathlib.Core.List.{List, [], ◌∷◌, ◌++◌, append_assoc, append-nil}
@@ -25,6 +26,17 @@ take-front : (n : ℕ) (a b : List ℕ) → take n (take n a ++ b) ≡ take n (a
 take-front zero a b = refl
 take-front (suc n) [] b = refl
 take-front (suc n) (x ∷ a) b = ap (λ l. x ∷ l) (take-front n a b)
+
+-- p bytes stand in the room of a name: bs, cut at the room
+abbrev pub Stands : List ℕ → ℕ → List ℕ → Type 0
+Stands bs p out = (p ≡ length (take 253 bs)) × (out ≡ padded 253 0 (take 253 bs))
+
+-- one more put behind what stands
+pub put_on : (zs bs out out' : List ℕ) (p q : ℕ) → Stands zs p out → Stands (take p out ++ bs) q out' → Stands (zs ++ bs) q out'
+put_on zs bs out out' p q h k =
+    let e : take p out ≡ take 253 zs = ap (λ n. take n out) h.0 ∙ (ap (take (length (take 253 zs))) h.1 ∙ padded-take 0 253 (take 253 zs)) in
+    let f : take 253 (take p out ++ bs) ≡ take 253 (zs ++ bs) = ap (λ l. take 253 (l ++ bs)) e ∙ take-front 253 zs bs in
+    (k.0 ∙ ap length f, k.1 ∙ ap (padded 253 0) f)
 
 in_on : (zs bs : List ℕ) → name_in (name_bytes (name_in zs) ++ bs) ≡ name_in (zs ++ bs)
 unfolding name_in
