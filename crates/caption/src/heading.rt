@@ -4,11 +4,13 @@ use super::title::{Title, draw_begin, draw_title, draw_words};
 use super::verdict::{Detail, Verdict};
 use chart::page::{DETAIL, NOTE};
 use entries::setup::{Configuration, Origin};
+use std::fmt::Write;
 use std::io;
+use telling::text::Text;
 
 // The head of the page: the origin and what the race came to.
 pub fn draw_head(
-    rt: &(impl Print + Alloc),
+    rt: &impl Print,
     c: Configuration<'_>,
     v: Verdict<'_>,
     height: u64,
@@ -18,8 +20,10 @@ pub fn draw_head(
         host: c.setup.origin,
     };
     let port = c.setup.rules.port;
-    let origin = format!(in rt.alloc(); "{said}")?;
-    let rest = format!(in rt.alloc(); ", port {port}{v}")?;
+    let mut origin = Text::new();
+    write!(origin, "{said}")?;
+    let mut rest = Text::new();
+    write!(rest, ", port {port}{v}")?;
     let title = Title {
         origin: origin.as_bytes(),
         rest: rest.as_bytes(),
@@ -29,11 +33,13 @@ pub fn draw_head(
 }
 
 // What stands below the title: the winner or the last answer, and what a reader is to be warned of.
-pub fn draw_notes(rt: &(impl Print + Alloc), v: Verdict<'_>, n: Notice) -> io::Result<()> {
-    let detail = format!(in rt.alloc(); "{}", Detail(v))?;
+pub fn draw_notes(rt: &impl Print, v: Verdict<'_>, n: Notice) -> io::Result<()> {
+    let mut detail = Text::new();
+    write!(detail, "{}", Detail(v))?;
     draw_words(rt, "detail", DETAIL, detail.as_bytes())?;
-    let notice = format!(in rt.alloc(); "{n}")?;
-    if notice.is_empty() {
+    let mut notice = Text::new();
+    write!(notice, "{n}")?;
+    if notice.as_bytes().is_empty() {
         let none = "The tape was replayed to its end; the clock never went back.";
         return draw_words(rt, "note", NOTE, none.as_bytes());
     }

@@ -5,12 +5,14 @@ use chart::page::{DETAIL, END};
 use numbers::refusal::refusal_number;
 use parts::reading::Fault;
 use replay::run::Replayed;
-use std::fmt::Display;
+use std::fmt::{Display, Write};
 use std::io;
+use telling::text::Text;
 use wording::words::Refused;
 
-fn draw_only<D: Display + Drop>(rt: &(impl Print + Alloc), why: D) -> io::Result<()> {
-    let said = format!(in rt.alloc(); "{why}")?;
+fn draw_only<D: Display + Drop>(rt: &impl Print, why: D) -> io::Result<()> {
+    let mut said = Text::new();
+    write!(said, "{why}")?;
     let origin = b"No race";
     let name = Title { origin, rest: b"" };
     let title = Title {
@@ -24,7 +26,7 @@ fn draw_only<D: Display + Drop>(rt: &(impl Print + Alloc), why: D) -> io::Result
 }
 
 // The page of a tape whose configuration is refused, at a place of its body.
-pub fn draw_refused(rt: &(impl Print + Alloc), e: Fault) -> io::Result<()> {
+pub fn draw_refused(rt: &impl Print, e: Fault) -> io::Result<()> {
     let why = Refused(refusal_number(e.refusal) as u64);
     let place = e.place;
     draw_only(
@@ -36,6 +38,6 @@ pub fn draw_refused(rt: &(impl Print + Alloc), e: Fault) -> io::Result<()> {
 }
 
 // The page of a tape that stops before its configuration's body.
-pub fn draw_stopped(rt: &(impl Print + Alloc), r: Replayed) -> io::Result<()> {
+pub fn draw_stopped(rt: &impl Print, r: Replayed) -> io::Result<()> {
     draw_only(rt, Stop(r))
 }

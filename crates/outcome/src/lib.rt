@@ -49,7 +49,7 @@ impl fmt::Display for Ended<'_> {
 }
 
 // All that was asked for.
-fn show_table(rt: &(impl Print + Alloc), answers: &[u8], t: &Table) -> io::Result<()> {
+fn show_table(rt: &impl Print, answers: &[u8], t: &Table) -> io::Result<()> {
     for asked in t.list.iter().take(t.count) {
         show(rt, format_args!("  {}", Ended { answers, asked }))?;
     }
@@ -58,7 +58,7 @@ fn show_table(rt: &(impl Print + Alloc), answers: &[u8], t: &Table) -> io::Resul
 
 // What was open after the event at a place, each on a line of its own.
 fn show_unanswered(
-    rt: &(impl Print + Alloc),
+    rt: &impl Print,
     answers: &[u8],
     t: &Table,
     place: usize,
@@ -77,7 +77,7 @@ fn show_unanswered(
     Ok(())
 }
 
-fn show_won(rt: &(impl Print + Alloc), answers: &[u8], a: &Asked, first: u64) -> io::Result<()> {
+fn show_won(rt: &impl Print, answers: &[u8], a: &Asked, first: u64) -> io::Result<()> {
     let after = Took {
         from: first,
         until: a.until.moment,
@@ -100,7 +100,7 @@ fn failure(answers: &[u8], c: &Calls) -> Option<(u64, &'static str)> {
 }
 
 fn show_outcome(
-    rt: &(impl Print + Alloc),
+    rt: &impl Print,
     answers: &[u8],
     c: &Course,
     first: u64,
@@ -145,7 +145,7 @@ impl fmt::Display for Counts {
 }
 
 // The longest gap between two calls, and what the machine was waiting for then.
-fn show_gap(rt: &(impl Print + Alloc), answers: &[u8], c: &Course) -> io::Result<()> {
+fn show_gap(rt: &impl Print, answers: &[u8], c: &Course) -> io::Result<()> {
     let Some(Gap { before, ns }) = c.calls.longest else {
         return show(rt, "No time passed between two calls.");
     };
@@ -164,7 +164,7 @@ fn show_gap(rt: &(impl Print + Alloc), answers: &[u8], c: &Course) -> io::Result
 
 // What the tape came to, from its first event's moment on.
 pub fn show_summary(
-    rt: &(impl Print + Alloc),
+    rt: &impl Print,
     answers: &[u8],
     c: &Course,
     first: u64,

@@ -27,7 +27,7 @@ const ROOM: usize = 280000;
 
 // Draws what a configuration, and the events from a place on, come to.
 fn draw_race(
-    rt: &(impl Print + Alloc),
+    rt: &impl Print,
     tape: &[u8],
     answers: &[u8],
     c: Configuration<'_>,
@@ -60,7 +60,7 @@ fn draw_race(
 }
 
 fn draw_tape(
-    rt: &(impl Print + Alloc),
+    rt: &impl Print,
     tape: &[u8],
     answers: &[u8],
     r: Replayed,
@@ -76,7 +76,7 @@ fn draw_tape(
     }
 }
 
-fn draw(rt: &(impl Print + Alloc), tape: &[u8]) -> io::Result<()> {
+fn draw(rt: &impl Print, tape: &[u8]) -> io::Result<()> {
     let mut answers = [0u8; ROOM];
     let r = replay(tape, &mut answers);
     draw_tape(rt, tape, &answers, r)

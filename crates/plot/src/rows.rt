@@ -3,8 +3,10 @@ use chart::markup::{Bar, Mark, Shortened, TextTag, Words};
 use chart::page::{Crown, line_of};
 use chart::scale::{Scale, column};
 use course::{Asked, Fate, Sort, Table};
+use std::fmt::Write;
 use std::{fmt, io};
 use telling::piece::Took;
+use telling::text::Text;
 use wording::reply::ReplyAt;
 
 // Signs of a label.
@@ -117,7 +119,7 @@ pub struct Rows<'a> {
 impl Rows<'_> {
     fn draw(
         &self,
-        rt: &(impl Print + Alloc),
+        rt: &impl Print,
         i: usize,
         asked: &Asked,
         won: bool,
@@ -130,7 +132,8 @@ impl Rows<'_> {
             answers: self.answers,
             place: asked.place,
         };
-        let label = format!(in rt.alloc(); "{said}")?;
+        let mut label = Text::new();
+        write!(label, "{said}")?;
         let words = Words {
             class: "label",
             y: y + 3,
@@ -151,7 +154,7 @@ impl Rows<'_> {
 }
 
 // Draws a row for each thing asked for.
-pub fn draw_rows(rt: &(impl Print + Alloc), rows: Rows<'_>, t: &Table) -> io::Result<()> {
+pub fn draw_rows(rt: &impl Print, rows: Rows<'_>, t: &Table) -> io::Result<()> {
     if t.count == 0 {
         return rt.print("<text class=\"label\" x=\"16\" y=\"155\">nothing was asked for</text>\n");
     }

@@ -77,7 +77,7 @@ impl Told {
     // Tells an event and the answer to it.
     fn tell(
         &mut self,
-        rt: &(impl Print + Alloc),
+        rt: &impl Print,
         body: &[u8],
         answers: &[u8],
         point: Point,
@@ -117,7 +117,7 @@ impl Told {
 
 // Tells the events from a place up to where replay ended, and then what they came to.
 fn show_events(
-    rt: &(impl Print + Alloc),
+    rt: &impl Print,
     tape: &[u8],
     answers: &[u8],
     from: usize,
@@ -147,7 +147,7 @@ fn show_events(
 }
 
 // Why replay stopped; nothing of a tape that it went through.
-fn show_end(rt: &(impl Print + Alloc), r: Replayed) -> io::Result<()> {
+fn show_end(rt: &impl Print, r: Replayed) -> io::Result<()> {
     if r.status == 0 {
         return Ok(());
     }
@@ -159,7 +159,7 @@ fn show_end(rt: &(impl Print + Alloc), r: Replayed) -> io::Result<()> {
 }
 
 fn show_tape(
-    rt: &(impl Print + Alloc),
+    rt: &impl Print,
     tape: &[u8],
     answers: &[u8],
     r: Replayed,

@@ -1,7 +1,8 @@
 // Lines of at most 100 columns. A longer text continues indented by four; a line that is broken inside a word ends with a backslash.
 ghost use Rattle.std.specs.Prelude.{◌≤◌, ◌<◌, length};
 
-use std::fmt::Display;
+use super::text::Text;
+use std::fmt::{Display, Write};
 use std::io;
 
 const COLUMNS: usize = 100;
@@ -44,7 +45,8 @@ fn broken(rt: &impl Print, s: &[u8]) -> io::Result<()> {
 }
 
 // Writes an entry in lines.
-pub fn show<D: Display + Drop>(rt: &(impl Print + Alloc), entry: D) -> io::Result<()> {
-    let text = format!(in rt.alloc(); "{entry}")?;
+pub fn show<D: Display + Drop>(rt: &impl Print, entry: D) -> io::Result<()> {
+    let mut text = Text::new();
+    write!(text, "{entry}")?;
     broken(rt, text.as_bytes())
 }

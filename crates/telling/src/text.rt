@@ -1,0 +1,62 @@
+// A text that is put together in a room of fixed size, piece after piece.
+ghost use Rattle.std.specs.Prelude.{◌≡◌, [], IsOk};
+ghost use Rattle.telling.specs.Text.{with_piece};
+
+use std::fmt;
+use std::marker::Model;
+
+// Room for the longest entry of a story, which has less than 3,000 bytes.
+const ROOM: usize = 8192;
+
+#[derive(Drop)]
+pub struct Text {
+    bytes: [u8; ROOM],
+    len: usize,
+}
+
+impl Model for Text {
+    ghost use Rattle.std.specs.Prelude.{ℕ, ◌≤◌, List, take};
+
+    ghost Value = { List ℕ };
+
+    ghost view = { λ t. take t.len t.bytes };
+
+    ghost invariant = { λ t. t.len ≤ 8192 };
+}
+
+impl Text {
+    // A text without a piece.
+    pub fn new() -> Text
+        ensures { result ≡ [] }
+    {
+        Text {
+            bytes: [0; ROOM],
+            len: 0,
+        }
+    }
+
+    pub fn as_bytes(&self) -> &[u8]
+        ensures { result.now ≡ self.now }
+    {
+        &self.bytes[..self.len]
+    }
+}
+
+// No piece is an error: one that doesn't fit is left out, and the next go on.
+impl fmt::Write for Text {
+    ghost write_str_gives = { λ said piece now. now ≡ with_piece said piece };
+
+    #[tactic(auto, unfolding(crate::specs::Text::with_piece))]
+    fn write_str(&mut self, s: &str) -> fmt::Result
+        ensures ok { IsOk result }
+        ensures said { self.new ≡ with_piece self.old s.now }
+    {
+        let len = self.len;
+        if s.len() <= ROOM - len {
+            let end = len + s.len();
+            self.bytes[len..end].copy_from_slice(s.as_bytes());
+            self.len = end;
+        }
+        Ok(())
+    }
+}
