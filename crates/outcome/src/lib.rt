@@ -57,12 +57,7 @@ fn show_table(rt: &impl Print, answers: &[u8], t: &Table) -> io::Result<()> {
 }
 
 // What was open after the event at a place, each on a line of its own.
-fn show_unanswered(
-    rt: &impl Print,
-    answers: &[u8],
-    t: &Table,
-    place: usize,
-) -> io::Result<()> {
+fn show_unanswered(rt: &impl Print, answers: &[u8], t: &Table, place: usize) -> io::Result<()> {
     let mut any = false;
     for a in t.list.iter().take(t.count) {
         if a.was_open(place) {
@@ -99,12 +94,7 @@ fn failure(answers: &[u8], c: &Calls) -> Option<(u64, &'static str)> {
     }
 }
 
-fn show_outcome(
-    rt: &impl Print,
-    answers: &[u8],
-    c: &Course,
-    first: u64,
-) -> io::Result<()> {
+fn show_outcome(rt: &impl Print, answers: &[u8], c: &Course, first: u64) -> io::Result<()> {
     if let Some((_, a)) = c.table.winner() {
         return show_won(rt, answers, &a, first);
     }
@@ -163,12 +153,7 @@ fn show_gap(rt: &impl Print, answers: &[u8], c: &Course) -> io::Result<()> {
 }
 
 // What the tape came to, from its first event's moment on.
-pub fn show_summary(
-    rt: &impl Print,
-    answers: &[u8],
-    c: &Course,
-    first: u64,
-) -> io::Result<()> {
+pub fn show_summary(rt: &impl Print, answers: &[u8], c: &Course, first: u64) -> io::Result<()> {
     show(rt, "")?;
     show(rt, "Summary")?;
     show_outcome(rt, answers, c, first)?;

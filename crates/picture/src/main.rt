@@ -59,12 +59,7 @@ fn draw_race(
     rt.print(END)
 }
 
-fn draw_tape(
-    rt: &impl Print,
-    tape: &[u8],
-    answers: &[u8],
-    r: Replayed,
-) -> io::Result<()> {
+fn draw_tape(rt: &impl Print, tape: &[u8], answers: &[u8], r: Replayed) -> io::Result<()> {
     let Ok((b, next)) = configuration_at(tape) else {
         return draw_stopped(rt, r);
     };

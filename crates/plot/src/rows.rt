@@ -117,13 +117,7 @@ pub struct Rows<'a> {
 }
 
 impl Rows<'_> {
-    fn draw(
-        &self,
-        rt: &impl Print,
-        i: usize,
-        asked: &Asked,
-        won: bool,
-    ) -> io::Result<()> {
+    fn draw(&self, rt: &impl Print, i: usize, asked: &Asked, won: bool) -> io::Result<()> {
         let y = line_of(i);
         if won {
             rt.print(Crown(y))?;

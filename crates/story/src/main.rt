@@ -158,12 +158,7 @@ fn show_end(rt: &impl Print, r: Replayed) -> io::Result<()> {
     )
 }
 
-fn show_tape(
-    rt: &impl Print,
-    tape: &[u8],
-    answers: &[u8],
-    r: Replayed,
-) -> io::Result<()> {
+fn show_tape(rt: &impl Print, tape: &[u8], answers: &[u8], r: Replayed) -> io::Result<()> {
     let Ok((b, next)) = configuration_at(tape) else {
         return show_end(rt, r);
     };
