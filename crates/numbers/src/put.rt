@@ -13,7 +13,7 @@ pub fn has_room(len: usize, at: usize, need: usize) -> bool
 }
 
 // Writes the bytes from the place at on, or nothing where they do not fit; the place after the last byte.
-#[tactic(auto, using(crate::proofs::PutLaws::part_stored), unfolding(crate::specs::Put::put_answer, crate::specs::Put::put_bytes))]
+#[tactic(auto, unfolding(crate::specs::Put::put_answer, crate::specs::Put::put_bytes))]
 pub fn put_bytes(out: &mut [u8], at: usize, bytes: &[u8]) -> Result<usize, Refusal>
     ensures answer { wrote_shown result ≡ put_answer out.old at bytes.now }
     ensures bytes { out.new ≡ put_bytes out.old at bytes.now }
@@ -21,7 +21,9 @@ pub fn put_bytes(out: &mut [u8], at: usize, bytes: &[u8]) -> Result<usize, Refus
     if !has_room(out.len(), at, bytes.len()) {
         return Err(Refusal::NoRoom);
     }
-    let end = at + bytes.len();
-    out[at..end].copy_from_slice(bytes);
-    Ok(end)
+    // By the byte: what copies a slice at once asks memmove of the C library, which the archive does without.
+    for i in 0..bytes.len() {
+        out[at + i] = bytes[i];
+    }
+    Ok(at + bytes.len())
 }
