@@ -6,7 +6,7 @@
 --     full_put, in_table              an output that is two numbers; a place, if it is one of the table: nothing cites these now, and docs/PORT.md names them
 use mathlib.Core.Path.{◌≡◌, refl, sym, ap, ◌∙◌}
 use mathlib.Core.Bool.{Bool, true, false, cond, ◌&&◌}
-use mathlib.Core.List.{List, [], ◌∷◌, ◌++◌, map}
+use mathlib.Core.List.{List, [], ◌∷◌, ◌++◌}
 use Prim.Native.Nat.{ℕ, zero, suc, ◌+◌, ◌/◌, ◌≤◌, ◌<◌}
 use native.Mathlib.Omega.{arith}
 use lib.ListN.{length, take, length-take}
@@ -25,7 +25,7 @@ use Rattle.records.specs.declared.endpoints.Endpoint.{Endpoint}
 use Rattle.machine.specs.declared.grant.Table.{Table}
 use Rattle.machine.specs.declared.grant.Output.{Output}
 use Rattle.machine.specs.declared.grant.Output.TheVariants as output
-use Rattle.answers.specs.Answers.{query, attempt, full, number, raw, bit, table_number, high_first, target_fields, joined, answer_bytes}
+use Rattle.answers.specs.Answers.{query, attempt, number, raw, bit, table_number, high_first, target_fields, joined, answer_bytes}
 use Rattle.answers.specs.Outputs.{said_target, said_endpoint, said_by}
 use Rattle.answers.specs.Parts.{numbers_bytes, parts_bytes, attempt_bytes}
 use Rattle.std.specs.Int.{w32, w64, to_be_bytes}

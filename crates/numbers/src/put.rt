@@ -21,7 +21,7 @@ pub fn put_bytes(out: &mut [u8], at: usize, bytes: &[u8]) -> Result<usize, Refus
     if !has_room(out.len(), at, bytes.len()) {
         return Err(Refusal::NoRoom);
     }
-    // By the byte: what copies a slice at once asks memmove of the C library, which the archive does without.
+    // By the byte: copied at once, they would need memmove of the C library, which the archive does without.
     for i in 0..bytes.len() {
         out[at + i] = bytes[i];
     }

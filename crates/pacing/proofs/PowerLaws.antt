@@ -1,7 +1,7 @@
 -- Laws of the saturating power and product.
 --     one_power, past-cap     a multiplier of at most 1, an exponent of at least 32
 --     step, full, done        the loop of `power`: one turn, a turn that passes the cap, the end
---     fits                    a product of two numbers of 32 bits fits 64
+--     fits                    a product of two numbers of 32 bits fits 64 (done and fits are found without a citation)
 --     power_cut, product_cut  an exponent cut at 32; what `product` returns, of the definition
 --     nothing, within, beyond the product: by 0, below the cap, above it; then the same cases of both definitions
 use Rattle.std.proofs.Common.{◌≡◌, ℕ, zero, suc, ◌-◌, ◌*◌, ◌/◌, ◌^◌, ◌<◌, ◌≤◌, min, max, sym, refl, ◌∙◌, le_of_lt, div-lt_iff_lt-mul, mul-zero, le-div_iff_mul-le, arith, pow_mono, mul-one, Fits, mul-lt-mul_of_pos_right, mul-le-mul_left, pow_pos, lt_of_le_of_lt, mul_assoc, w64}

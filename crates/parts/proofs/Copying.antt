@@ -2,7 +2,8 @@
 --     fits-there            bytes that fit lie in the body
 --     kept_there, kept-none what is kept of the bytes
 --     put-kept, put_front   bytes that fit, put into the room by the writer, are what is kept
---     kept_length, kept_front, none_kept, no_bytes_kept     the same of a copy into the front of the room
+--     kept_length, none_kept, no_bytes_kept     how many bytes are kept; where they don't fit
+--     kept_front            put-kept of a copy into the front of the room, which nothing cites now
 --     kept-few              what is kept fits its room
 --     name_back, ech-back   the bytes in a room are those that were copied
 use mathlib.Core.Path.{◌≡◌, refl, sym, ap, ◌∙◌}

@@ -27,7 +27,7 @@ fn kept<const N: usize>(s: &[u8], b: Span) -> (usize, [u8; N])
         return (0, bytes);
     }
     let end = b.start + b.len;
-    // The room has place for them.
+    // They fit, so the writer takes them.
     let _ = put_bytes(&mut bytes, 0, &s[b.start..end]);
     (b.len, bytes)
 }

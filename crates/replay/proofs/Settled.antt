@@ -1,7 +1,7 @@
 -- What the readers of frames and of a configuration show settles what they give, and so does what is said of a body's fault: any two
 -- answers that meet one promise are equal.
 use Prim.Native.Nat.{ℕ}
-use mathlib.Core.Path.{◌≡◌, sym, ap}
+use mathlib.Core.Path.{◌≡◌}
 use Rattle.std.specs.Prelude.{Result, Ok, Err}
 use Rattle.numbers.specs.Shown as numbers
 use Rattle.numbers.specs.declared.refusal.Refusal.{Refusal}

@@ -8,6 +8,7 @@ use std::marker::Model;
 // Room for the longest entry of a story, which has less than 3,000 bytes.
 const ROOM: usize = 8192;
 
+// A text of at most 8,192 bytes, empty at first; write! puts pieces at its end.
 #[derive(Drop)]
 pub struct Text {
     bytes: [u8; ROOM],
@@ -35,6 +36,7 @@ impl Text {
         }
     }
 
+    // The pieces that fit, one after the other.
     pub fn as_bytes(&self) -> &[u8]
         ensures { result.now ≡ self.now }
     {
@@ -42,7 +44,7 @@ impl Text {
     }
 }
 
-// No piece is an error: one that doesn't fit is left out, and the next go on.
+// A piece that doesn't fit is left out, which is no error; those after it are put in where they fit.
 impl fmt::Write for Text {
     ghost write_str_gives = { λ said piece now. now ≡ with_piece said piece };
 
