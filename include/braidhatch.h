@@ -69,7 +69,7 @@ enum {
 #define BRAIDHATCH_ANSWERS_SIZE(tape_len) (4 * (size_t)(tape_len) + 74290)
 
 /* A stack on which every entry returns, in bytes, with room to spare. Measured, not proved, by a thread whose stack shrinks until it falls:
- * the deepest replay took a thread of 114,688 bytes, tape check and attempt delay the smallest there is, of 16,384. */
+ * the deepest replay took a thread of 102,400 bytes, tape check and attempt delay the smallest there is, of 16,384. */
 #define BRAIDHATCH_STACK_SIZE 262144
 
 /* The wait before another attempt, in the unit of `delay`: the delay times the multiplier to the power of in_progress - 1, or of 0 if none
