@@ -1,13 +1,11 @@
 -- Laws of the saturating power and product.
 --     one_power, past-cap     a multiplier of at most 1, an exponent of at least 32
---     step, full, done        the loop of `power`: one turn, a turn that passes the cap, the end
---     fits                    a product of two numbers of 32 bits fits 64 (done and fits are found without a citation)
---     power_cut, product_cut  an exponent cut at 32; what `product` returns, of the definition
+--     power_cut, product_cut  what `power` and `product` return, of the definitions
 --     nothing, within, beyond the product: by 0, below the cap, above it; then the same cases of both definitions
-use Rattle.std.proofs.Common.{◌≡◌, ℕ, zero, suc, ◌-◌, ◌*◌, ◌/◌, ◌^◌, ◌<◌, ◌≤◌, min, max, sym, refl, ◌∙◌, le_of_lt, div-lt_iff_lt-mul, mul-zero, le-div_iff_mul-le, arith, pow_mono, mul-one, Fits, mul-lt-mul_of_pos_right, mul-le-mul_left, pow_pos, lt_of_le_of_lt, mul_assoc, w64}
+use Rattle.std.proofs.Common.{◌≡◌, ℕ, zero, suc, ◌-◌, ◌*◌, ◌/◌, ◌^◌, ◌<◌, ◌≤◌, min, max, sym, refl, ◌∙◌, le_of_lt, div-lt_iff_lt-mul, mul-zero, le-div_iff_mul-le, arith, pow_mono}
 use native.Mathlib.Decide.{dec_lt}
 use Rattle.pacing.specs.Pacing.{power_of, product_of}
-use native.Mathlib.Nat.{one-le-pow, pow-le-pow_left, pow-zero, pow-succ', min-eq_left, min-eq_right}
+use native.Mathlib.Nat.{pow-le-pow_left, pow-zero, pow-succ', min-eq_left, min-eq_right}
 
 one-pow : (e : ℕ) → 1 ^ e ≡ 1
 one-pow zero = pow-zero 1
@@ -21,31 +19,6 @@ past-cap m e h l =
     let a : 2 ^ 32 ≤ 2 ^ e = pow_mono l in
     let b : 2 ^ e ≤ max 1 m ^ e = pow-le-pow_left (omega arith) e in
     sym (min-eq_left (omega arith))
-
--- a multiplier above 1 counts as itself
-pub itself : {t : ℕ} (cap m e : ℕ) → 1 < m → t ≡ min cap (m ^ e) → t ≡ min cap (max 1 m ^ e)
-itself cap m e h i = let o : max 1 m ≡ m = omega arith in rw o i
-
--- one turn: a factor goes from the power to the product
-pub step : {t : ℕ} (p m k : ℕ) → 0 < k → p * m ^ k ≡ t → (p * m) * m ^ (k - 1) ≡ t
-step p m zero h e = absurd (omega arith)
-step p m (suc k) h e = let q : suc k - 1 ≡ k = omega arith in rw (q, mul_assoc, ← pow-succ') e
-
--- a positive multiple of what is past the cap is past the cap
-pub full : {t : ℕ} (cap p m k : ℕ) → cap < p * m → (p * m) * m ^ (k - 1) ≡ t → cap ≡ min cap t
-full cap p zero k h e = absurd (let z = mul-zero p in omega arith)
-full cap p (suc m) k h e =
-    let one : 1 ≤ suc m ^ (k - 1) = one-le-pow (k - 1) (suc m) (omega arith) in
-    let le : p * suc m ≤ p * suc m * suc m ^ (k - 1) = rw mul-one at (mul-le-mul_left (p * suc m) one) in
-    sym (min-eq_left (omega arith))
-
-pub done : {t : ℕ} (cap p m k : ℕ) → k ≤ 0 → p ≤ cap → p * m ^ k ≡ t → p ≡ min cap t
-done cap p m zero h l e = let q : p ≡ _ = rw (pow-zero, mul-one) at e in sym (min-eq_right (omega arith) ∙ sym q)
-done cap p m (suc k) h l e = absurd (omega arith)
-
-pub fits : {a b : ℕ} → a < 2 ^ 32 → b < 2 ^ 32 → Fits w64 (a * b)
-fits {a} {b} ha hb =
-    record { fits = lt_of_le_of_lt (mul-le-mul_left a (le_of_lt hb)) (mul-lt-mul_of_pos_right ha (pow_pos 32)) }
 
 -- an exponent cut at 32 gives the same
 pub power_cut : (m n : ℕ) → min (max m 1 ^ min n 32) (2 ^ 32 - 1) ≡ power_of m n
