@@ -1,11 +1,13 @@
 // The head of the page of a tape whose configuration is sound.
 use super::notice::Notice;
-use super::title::{Title, draw_begin, draw_title, draw_words};
+use super::title::{LETTERS, LongName, Title, draw_begin, draw_named, draw_title, draw_words};
 use super::verdict::{Detail, Verdict};
 use chart::page::{DETAIL, NOTE};
+use configuration::HostSpan;
 use entries::setup::{Configuration, Origin};
 use std::fmt::Write;
 use std::io;
+use telling::piece::part;
 use telling::text::Text;
 
 // The head of the page: the origin and what the race came to.
@@ -28,7 +30,13 @@ pub fn draw_head(
         origin: origin.as_bytes(),
         rest: rest.as_bytes(),
     };
-    draw_begin(rt, title, height)?;
+    match c.setup.origin {
+        // A text may not hold it, and the page's name has it whole all the same.
+        HostSpan::Named(b) if LETTERS < b.len => {
+            draw_named(rt, LongName(part(c.body, b)), title.rest, height)?
+        }
+        _ => draw_begin(rt, title, height)?,
+    }
     draw_title(rt, title)
 }
 

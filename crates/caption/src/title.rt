@@ -1,7 +1,10 @@
 // The begin of a page: its name, its title, and lines of words below that.
 use chart::markup::{Escaped, Shortened, TextTag, Words};
 use chart::page::{Begin, SHAPES, STYLES, TITLE};
+use std::fmt::{self, Display, Write};
 use std::io;
+use telling::piece::Letters;
+use telling::text::Text;
 
 // Signs of the origin in the title, of the title's rest, and of the lines below it.
 const ORIGIN: usize = 63;
@@ -10,6 +13,9 @@ const REST: usize = 71;
 
 const SIGNS: usize = 189;
 
+// Letters of a name that a text surely holds: each has at most two bytes.
+pub(crate) const LETTERS: usize = 4096;
+
 // A page's title: the origin, and the rest.
 #[derive(Clone, Copy)]
 pub struct Title<'a> {
@@ -17,10 +23,35 @@ pub struct Title<'a> {
     pub rest: &'a [u8],
 }
 
+// The letters of a name that no text may hold, as XML has them.
+#[derive(Clone, Copy)]
+pub(crate) struct LongName<'a>(pub(crate) &'a [u8]);
+
+impl Display for LongName<'_> {
+    fn fmt<W: Write>(&self, f: &mut fmt::Formatter<W>) -> fmt::Result {
+        for letters in self.0.chunks(LETTERS) {
+            let mut text = Text::new();
+            write!(text, "{}", Letters(letters))?;
+            write!(f, "{}", Escaped(text.as_bytes()))?;
+        }
+        Ok(())
+    }
+}
+
 // The page of a height up to the words on it. Its name is the whole title.
 pub fn draw_begin(rt: &impl Print, t: Title<'_>, height: u64) -> io::Result<()> {
+    draw_named(rt, Escaped(t.origin), t.rest, height)
+}
+
+// The same of an origin that shows itself as XML has it.
+pub(crate) fn draw_named<D: Display + Drop>(
+    rt: &impl Print,
+    origin: D,
+    rest: &[u8],
+    height: u64,
+) -> io::Result<()> {
     let begin = Begin(height);
-    print!(rt; "{begin}{}{}", Escaped(t.origin), Escaped(t.rest))?;
+    print!(rt; "{begin}{origin}{}", Escaped(rest))?;
     print!(rt; "{STYLES}{SHAPES}")
 }
 

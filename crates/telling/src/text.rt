@@ -13,6 +13,7 @@ const ROOM: usize = 8192;
 pub struct Text {
     bytes: [u8; ROOM],
     len: usize,
+    whole: bool,
 }
 
 impl Model for Text {
@@ -33,7 +34,13 @@ impl Text {
         Text {
             bytes: [0; ROOM],
             len: 0,
+            whole: true,
         }
+    }
+
+    // Whether no piece was left out.
+    pub(crate) fn is_whole(&self) -> bool {
+        self.whole
     }
 
     // The pieces that fit, one after the other.
@@ -58,6 +65,8 @@ impl fmt::Write for Text {
             let end = len + s.len();
             self.bytes[len..end].copy_from_slice(s.as_bytes());
             self.len = end;
+        } else {
+            self.whole = false;
         }
         Ok(())
     }
