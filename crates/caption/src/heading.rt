@@ -1,6 +1,6 @@
 // The head of the page of a tape whose configuration is sound.
 use super::notice::Notice;
-use super::title::{LETTERS, LongName, Title, draw_begin, draw_named, draw_title, draw_words};
+use super::title::{LETTERS, Title, draw_begin, draw_long, draw_title, draw_words};
 use super::verdict::{Detail, Verdict};
 use chart::page::{DETAIL, NOTE};
 use configuration::HostSpan;
@@ -33,7 +33,7 @@ pub fn draw_head(
     match c.setup.origin {
         // A text may not hold it, and the page's name has it whole all the same.
         HostSpan::Named(b) if LETTERS < b.len => {
-            draw_named(rt, LongName(part(c.body, b)), title.rest, height)?
+            draw_long(rt, part(c.body, b), title.rest, height)?
         }
         _ => draw_begin(rt, title, height)?,
     }

@@ -3,8 +3,6 @@ use chart::markup::{Escaped, Shortened, TextTag, Words};
 use chart::page::{Begin, SHAPES, STYLES, TITLE};
 use std::fmt::{self, Display, Write};
 use std::io;
-use telling::piece::Letters;
-use telling::text::Text;
 
 // Signs of the origin in the title, of the title's rest, and of the lines below it.
 const ORIGIN: usize = 63;
@@ -13,7 +11,7 @@ const REST: usize = 71;
 
 const SIGNS: usize = 189;
 
-// Letters of a name that a text surely holds: each has at most two bytes.
+// Letters of a name that a text of 8,192 bytes surely holds: each has at most two.
 pub(crate) const LETTERS: usize = 4096;
 
 // A page's title: the origin, and the rest.
@@ -25,14 +23,14 @@ pub struct Title<'a> {
 
 // The letters of a name that no text may hold, as XML has them.
 #[derive(Clone, Copy)]
-pub(crate) struct LongName<'a>(pub(crate) &'a [u8]);
+struct LongName<'a>(&'a [u8]);
 
 impl Display for LongName<'_> {
     fn fmt<W: Write>(&self, f: &mut fmt::Formatter<W>) -> fmt::Result {
-        for letters in self.0.chunks(LETTERS) {
-            let mut text = Text::new();
-            write!(text, "{}", Letters(letters))?;
-            write!(f, "{}", Escaped(text.as_bytes()))?;
+        for b in self.0 {
+            let mut bytes = [0u8; 2];
+            let letter = (*b as char).encode_utf8(&mut bytes);
+            write!(f, "{}", Escaped(letter.as_bytes()))?;
         }
         Ok(())
     }
@@ -43,8 +41,14 @@ pub fn draw_begin(rt: &impl Print, t: Title<'_>, height: u64) -> io::Result<()> 
     draw_named(rt, Escaped(t.origin), t.rest, height)
 }
 
-// The same of an origin that shows itself as XML has it.
-pub(crate) fn draw_named<D: Display + Drop>(
+// The same of an origin's name that no text may hold.
+#[cold]
+#[inline(never)]
+pub(crate) fn draw_long(rt: &impl Print, name: &[u8], rest: &[u8], height: u64) -> io::Result<()> {
+    draw_named(rt, LongName(name), rest, height)
+}
+
+fn draw_named<D: Display + Drop>(
     rt: &impl Print,
     origin: D,
     rest: &[u8],

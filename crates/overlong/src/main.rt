@@ -7,7 +7,7 @@ use caption::verdict::Verdict;
 use configuration::{HostSpan, Setup};
 use course::Course;
 use entries::setup::Configuration;
-use intake::only_tape;
+use intake::read_full;
 use numbers::field::Span;
 use parts::address::Items;
 use records::rules::{Host, Mode, Preference, Rules, Timing, Versions};
@@ -60,8 +60,6 @@ fn show_all(rt: &impl Print, body: &[u8]) -> io::Result<()> {
 
 fn main(rt: HostRuntime) -> io::Result<()> {
     let mut body = [0u8; 65536];
-    let Some(n) = only_tape(&mut rt.stdin(), &rt.stderr(), &mut body, "overlong")? else {
-        return Ok(());
-    };
+    let n = read_full(&mut rt.stdin(), &mut body)?;
     show_all(&rt, &body[..n])
 }

@@ -5,7 +5,7 @@ ghost use Rattle.telling.specs.Text.{with_piece};
 use std::fmt;
 use std::marker::Model;
 
-// Room for the longest entry of a story, which has less than 3,000 bytes.
+// Room for any words of a picture, which have less than 1,000 bytes but where an origin is longer than any tape's.
 const ROOM: usize = 8192;
 
 // A text of at most 8,192 bytes, empty at first; write! puts pieces at its end.
@@ -13,7 +13,6 @@ const ROOM: usize = 8192;
 pub struct Text {
     bytes: [u8; ROOM],
     len: usize,
-    whole: bool,
 }
 
 impl Model for Text {
@@ -34,13 +33,7 @@ impl Text {
         Text {
             bytes: [0; ROOM],
             len: 0,
-            whole: true,
         }
-    }
-
-    // Whether no piece was left out.
-    pub(crate) fn is_whole(&self) -> bool {
-        self.whole
     }
 
     // The pieces that fit, one after the other.
@@ -65,8 +58,6 @@ impl fmt::Write for Text {
             let end = len + s.len();
             self.bytes[len..end].copy_from_slice(s.as_bytes());
             self.len = end;
-        } else {
-            self.whole = false;
         }
         Ok(())
     }

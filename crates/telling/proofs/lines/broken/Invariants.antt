@@ -1,5 +1,5 @@
 use Rattle.std.proofs.Common.{◌≤◌, ◌-◌, length}
-use Rattle.telling.proofs.lines.begun.Given as goal
+use Rattle.telling.proofs.lines.broken.Given as goal
 
 abbrev pub invariant-loop-width : goal.invariant-loop-width
 invariant-loop-width g l = (l.at ≤ length l.s) × (2 ≤ l.width) × (l.width ≤ 100)
