@@ -48,6 +48,7 @@ pub(crate) fn draw_long(rt: &impl Print, name: &[u8], rest: &[u8], height: u64) 
     draw_named(rt, LongName(name), rest, height)
 }
 
+// An origin shows itself as XML has it.
 fn draw_named<D: Display + Drop>(
     rt: &impl Print,
     origin: D,
