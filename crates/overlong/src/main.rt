@@ -1,5 +1,5 @@
-// For the tests alone: shows what is on standard input as an entry, in letters and in one piece, and as the origin in the head of a
-// picture. It may be longer than a text, which no tape's is.
+// For the tests alone: shows what is on standard input as an entry, in letters and in one piece, and all and half of it as the origin in the
+// head of a picture. It may be longer than a text, which no tape's is.
 #![tactic(auto)]
 
 use caption::heading::draw_head;
@@ -15,7 +15,7 @@ use std::{io, str};
 use telling::lines::show;
 use telling::piece::Letters;
 
-// A configuration whose origin is the whole body.
+// A configuration whose origin is the begin of the body.
 fn of_origin(len: usize) -> Setup {
     let rules = Rules {
         host: Host::Named,
@@ -48,14 +48,17 @@ fn show_all(rt: &impl Print, body: &[u8]) -> io::Result<()> {
     if let Ok(piece) = str::from_utf8(body) {
         show(rt, piece)?;
     }
-    let setup = of_origin(body.len());
     let verdict = Verdict {
         answers: &[],
         won: None,
         calls: Course::new().calls,
         moments: None,
     };
-    draw_head(rt, Configuration { body, setup }, verdict, 172)
+    for len in [body.len(), body.len() / 2] {
+        let setup = of_origin(len);
+        draw_head(rt, Configuration { body, setup }, verdict, 172)?;
+    }
+    Ok(())
 }
 
 fn main(rt: HostRuntime) -> io::Result<()> {
