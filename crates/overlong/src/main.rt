@@ -1,5 +1,5 @@
-// For the tests alone: shows what is on standard input as an entry, in letters and in one piece, and all and half of it as the origin in the
-// head of a picture. It may be longer than a text, which no tape's is.
+// For the tests alone: shows what is on standard input as an entry, in letters and in one piece, and all and half of it as the origin in
+// the head of a picture. It may be longer than a text, which no tape's is.
 #![tactic(auto)]
 
 use caption::heading::draw_head;
